@@ -1,0 +1,9 @@
+pub mod Names
+pub mod Turns
+pub mod Lists
+pub mod Steps
+pub mod Sound
+pub mod StmtSound
+pub mod Whole
+pub mod Few
+pub mod Form

@@ -1,0 +1,10 @@
+//! The reader of sources.
+#![tactic(auto)]
+
+mod memory;
+mod source;
+mod stmt;
+mod test;
+mod tokens;
+
+pub use source::read_source;

@@ -1,0 +1,3 @@
+pub mod TermList
+pub mod Meaning
+pub mod Formula

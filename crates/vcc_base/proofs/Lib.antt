@@ -1,0 +1,5 @@
+pub mod Appending
+pub mod Writing
+pub mod Holding
+pub mod Outcomes
+pub mod Reading

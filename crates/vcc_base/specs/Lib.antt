@@ -1,0 +1,5 @@
+pub mod Entries
+pub mod Faults
+pub mod Limits
+pub mod Maps
+pub mod Memory

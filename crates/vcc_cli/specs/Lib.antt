@@ -1,0 +1,3 @@
+pub mod Command
+pub mod Accepts
+pub mod Answer

@@ -1,0 +1,14 @@
+//! The commands of `vcc`.
+#![tactic(auto)]
+
+pub mod check;
+pub mod command;
+pub mod judge;
+mod main_call;
+pub mod refusal;
+pub mod report;
+
+pub use main_call::vcc_main;
+
+#[cfg(test)]
+mod tests;

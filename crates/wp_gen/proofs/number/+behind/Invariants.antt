@@ -1,0 +1,14 @@
+use Rattle.std.proofs.Common.{◌≡◌, ℕ, ◌<◌, ◌≤◌, List, ◌∷◌, length, take, All}
+use Rattle.c_syntax.specs.Tree.{stms}
+use Rattle.wp_gen.specs.Translation.{facts_behind}
+use Rattle.wp_gen.specs.Facts.{ListNumbered}
+use Rattle.wp_gen.proofs.number.+behind.Given as goal
+
+abbrev pub invariant-branch-loop-stmt : goal.invariant-branch-loop-stmt
+invariant-branch-loop-stmt l = record {
+  within : All (λ a. a < length l.terms) l.ids.items;
+  grows : length l.fn.terms ≤ length l.terms;
+  others : List ℕ;
+  is : l.ids.items ≡ l.first ∷ others;
+  numbered : ListNumbered (facts_behind (stms (take l.stmt-index l.stmts))) l.fn.terms l.terms others;
+}

@@ -1,0 +1,4 @@
+pub mod Translation
+pub mod Conditions
+pub mod Facts
+pub mod Law

@@ -1,0 +1,8 @@
+//! The conditions of a program: what has to follow for it to be safe.
+#![tactic(auto)]
+
+pub mod condition;
+pub mod fault;
+pub mod law;
+mod number;
+pub mod walk;

@@ -1,0 +1,5 @@
+void main(int x)
+  _(requires x == 5)
+{
+  _(assert x == 5)
+}
