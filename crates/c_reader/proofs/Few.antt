@@ -1,5 +1,5 @@
 -- A text has no more tokens than bytes.
-use Rattle.std.proofs.Common.{◌≡◌, ℕ, ◌+◌, ◌<◌, ◌≤◌, List, [], ◌∷◌, length, take, drop, arith, length-drop, refl, ap}
+use Rattle.std.proofs.Common.{ℕ, ◌<◌, ◌≤◌, List, length, take, arith, length-drop}
 use Rattle.std.proofs.lemmas.List.{length-take}
 use Rattle.c_syntax.specs.declared.token.Span.{Span}
 use Rattle.c_syntax.specs.declared.token.Sign.{Sign}

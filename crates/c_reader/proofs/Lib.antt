@@ -7,3 +7,6 @@ pub mod StmtSound
 pub mod Whole
 pub mod Few
 pub mod Form
+pub mod Complete
+pub mod StmtComplete
+pub mod WholeComplete

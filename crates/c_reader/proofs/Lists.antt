@@ -1,12 +1,12 @@
 -- What lies in vectors.
-use Rattle.std.proofs.Common.{◌≡◌, ℕ, List, [], ◌∷◌, ◌++◌, refl, ap, ap₂, sym, ◌∙◌, Vec, map}
+use Rattle.std.proofs.Common.{◌≡◌, ℕ, List, [], ◌∷◌, ◌++◌, refl, ap, ap₂, ◌∙◌, Vec, map}
 use Rattle.std.specs.declared.alloc.Global.{Global}
 use mathlib.Core.Former.{Count}
 use Rattle.c_syntax.specs.declared.token.Span.{Span}
 use Rattle.c_syntax.specs.declared.tree.Test as t
 use Rattle.c_syntax.specs.declared.tree.Stmt as s
 use Rattle.c_syntax.specs.declared.tree.Clause as d
-use Rattle.c_syntax.specs.Tree.{BoolExp, Stm, Stms, If, Empty, More, Clause, bool_exp, stm, stm_row, stms, clause}
+use Rattle.c_syntax.specs.Tree.{If, More, Clause, bool_exp, stm, stm_row, stms, clause}
 use Rattle.c_reader.specs.Reading.{snoc, names_of}
 
 pub stms_push : (all : List s.Stmt) (a : s.Stmt) → stms (all ++ a ∷ []) ≡ snoc (stms all) (stm a)

@@ -1,12 +1,12 @@
 -- Places of names.
-use Rattle.std.proofs.Common.{◌≡◌, ℕ, zero, suc, ◌+◌, ◌<◌, ◌≤◌, ◌&&◌, ◌||◌, List, [], ◌∷◌, ◌++◌, length, arith, map, Option, Some, None, get_or, slice_get, Bool, true, false, cond, ltb, inl, inr, refl, ap, ap₂, sym, ◌∙◌, Vec, Global}
+use Rattle.std.proofs.Common.{◌≡◌, ℕ, zero, suc, ◌+◌, ◌<◌, ◌&&◌, ◌||◌, List, [], ◌∷◌, ◌++◌, length, arith, map, Option, Some, None, get_or, slice_get, Bool, true, false, cond, ltb, inl, inr, refl, ap, sym, ◌∙◌, Vec, Global}
 use Rattle.std.proofs.lemmas.Grind.{common_steps}
 use Rattle.std.specs.Prelude.{◌⊎◌, not, position, is_some}
 use Rattle.std.specs.List.{prefix_len, position_or_len, list_any}
 use Rattle.std.specs.Str.{bytes_eq}
 use Rattle.std.proofs.lemmas.List.{length-map}
 use Rattle.std.proofs.lemmas.List.Quantifiers.{position-Some}
-use Rattle.std.proofs.lemmas.Option.{slice_get-get_or}
+use Rattle.std.proofs.lemmas.Option.{slice_get-get_or, slice_get_within}
 use Rattle.std.specs.Cmp.Lexicographic.{same_text}
 use Rattle.c_syntax.specs.Grammar.{reserved, IsIdentifier}
 use Rattle.c_syntax.specs.Reads.{AreDistinct}
@@ -108,3 +108,39 @@ fresh-distinct names name fresh distinct i j n a b =
     go none (inl x) (inr y) = absurd (place_none name names i none (x ∙ ap Some y.1))
     go none (inr x) (inl y) = absurd (place_none name names j none (y ∙ ap Some x.1))
     go none (inr x) (inr y) = x.0 ∙ sym y.0
+
+get_left : (names more : List (List ℕ)) (i : ℕ) (n : List ℕ) → slice_get names i ≡ Some n → slice_get (names ++ more) i ≡ Some n
+get_left [] more i n h = absurd cc
+get_left (y ∷ names) more zero n h = h
+get_left (y ∷ names) more (suc i) n h = get_left names more i n h
+
+get_seam : (names more : List (List ℕ)) (n : List ℕ) → slice_get (names ++ n ∷ more) (length names) ≡ Some n
+get_seam [] more n = refl
+get_seam (y ∷ names) more n = get_seam names more n
+
+word_there : (name : List ℕ) (words : List (List ℕ)) → list_any (λ word. bytes_eq word name) words ≡ true → (i : ℕ) × (slice_get words i ≡ Some name)
+word_there name [] h = absurd cc
+word_there name (w ∷ words) h = go (bytes_eq w name) refl h (λ g. word_there name words g)
+  where
+    go : (b : Bool) → bytes_eq w name ≡ b → (b || list_any (λ word. bytes_eq word name) words) ≡ true → (list_any (λ word. bytes_eq word name) words ≡ true → (i : ℕ) × (slice_get words i ≡ Some name)) → (i : ℕ) × (slice_get (w ∷ words) i ≡ Some name)
+    go true e g more = (0, ap Some (same_text w name (sym e)))
+    go false e g more = let r = more g in (suc r.0, r.1)
+
+-- a name that is declared once is fresh before it
+pub fresh-from : (names : List (List ℕ)) (name : List ℕ) (more : List (List ℕ)) → IsIdentifier name → AreDistinct (names ++ name ∷ more) → is_fresh names name ≡ true
+unfolding is_reserved
+fresh-from names name more is distinct =
+    let a : is_reserved name ≡ false = no_word (list_any (λ word. bytes_eq word name) reserved) refl in
+    let b : is_some (place_of name names) ≡ false = no_place (place_of name names) refl in
+    rw (a, b) refl
+  where
+    no_word : (b : Bool) → list_any (λ word. bytes_eq word name) reserved ≡ b → b ≡ false
+    no_word true e = let r = word_there name reserved e in absurd (is r.0 r.1)
+    no_word false e = refl
+
+    no_place : (r : Option ℕ) → place_of name names ≡ r → is_some r ≡ false
+    no_place None e = refl
+    no_place (Some i) e =
+        let there = place-there name names i e in
+        let same : i ≡ length names = distinct i (length names) name (get_left names (name ∷ more) i name there) (get_seam names more name) in
+        absurd (omega (arith, slice_get_within names i name there))

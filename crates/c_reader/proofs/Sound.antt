@@ -1,16 +1,13 @@
 -- What is read is a truth value of the grammar, no higher than there is room.
-use Rattle.std.proofs.Common.{◌≡◌, ℕ, zero, suc, ◌<◌, ◌≤◌, ◌-◌, max, List, [], ◌∷◌, Option, Some, None, Bool, true, false, ltb, refl, ap, ap₂, sym, subst, ◌∙◌, arith, slice_get, map}
+use Rattle.std.proofs.Common.{◌≡◌, ℕ, zero, suc, ◌<◌, ◌≤◌, max, List, [], ◌∷◌, Option, Some, None, true, ltb, refl, ap, ap₂, sym, subst, ◌∙◌, arith}
 use Rattle.std.proofs.lemmas.Grind.{common_steps}
 use Rattle.c_syntax.specs.declared.token.Sign.TheVariants as s
-use Rattle.c_syntax.specs.declared.tree.Operand.{Operand}
-use Rattle.c_syntax.specs.declared.tree.Operand.TheVariants as o
 use Rattle.c_syntax.specs.declared.tree.Comparison.{Comparison}
-use Rattle.c_syntax.specs.declared.tree.Comparison.TheVariants as c
 use Rattle.c_syntax.specs.Tokens.{Word, Name, Number, Mark, Lexeme}
 use Rattle.c_syntax.specs.Tree.{BoolExp, height}
 use Rattle.c_syntax.specs.Grammar as g
 use Rattle.c_syntax.specs.Grammar.{IsSign, IsOperand, IsTest, comparison_sign}
-use Rattle.c_reader.specs.Reading.{E, Out, Parser, and_then, top, operator, place_of, parameter_at, operand_by, take_operand, comparison_by, take_comparison, comparison, next_is, in_brackets, single, join, joins, level, expr, brackets}
+use Rattle.c_reader.specs.Reading.{E, Parser, top, operator, place_of, parameter_at, operand_by, take_operand, comparison_by, take_comparison, comparison, next_is, in_brackets, single, join, level, expr, brackets}
 use Rattle.c_reader.proofs.Steps.{OkAnd, ok_then, ok_if, ok_check, ok_sign, ok_many}
 use Rattle.c_reader.proofs.Names.{place-there}
 
@@ -145,6 +142,7 @@ module _ (names : List (List ℕ)) where
 
   mutual
     unfolding expr brackets
+
     pub expr_sound : (room : ℕ) → Reads room (expr names room)
     expr_sound zero n ts le = tt
     expr_sound (suc room) n ts le = level_sound room (expr names room) (expr_sound room) _

@@ -1,5 +1,5 @@
 -- Facts that hold of what a reader gives, step by step.
-use Rattle.std.proofs.Common.{◌≡◌, ℕ, zero, suc, ◌<◌, List, [], ◌∷◌, Option, Some, None, Bool, true, false, cond, ltb, refl, ap, sym, ◌∙◌, arith, eq-eqb, codes}
+use Rattle.std.proofs.Common.{◌≡◌, ℕ, zero, suc, List, [], ◌∷◌, Some, None, Bool, true, false, cond, refl, ap, sym, ◌∙◌, arith, eq-eqb}
 use Rattle.std.proofs.lemmas.Grind.{common_steps}
 use Rattle.std.specs.Str.{bytes_eq}
 use Rattle.std.specs.Cmp.Lexicographic.{same_text}
@@ -8,7 +8,7 @@ use Rattle.c_syntax.specs.declared.token.Sign.{Sign}
 use Rattle.c_syntax.specs.declared.token.Sign.TheVariants as s
 use Rattle.c_syntax.specs.Tokens.{Word, Name, Number, Mark, Lexeme}
 use Rattle.c_syntax.specs.Grammar.{Is, IsSign}
-use Rattle.c_reader.specs.Reading.{Out, Parser, and_then, check, number, is_sign, is_word, next_is, next_word, take_sign, take_word, take_name, name_by, many}
+use Rattle.c_reader.specs.Reading.{Out, Parser, and_then, check, number, is_sign, is_word, take_sign, take_word, take_name, name_by, many}
 
 -- the sign of a number
 abbrev sign : ℕ → Sign

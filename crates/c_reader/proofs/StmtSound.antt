@@ -1,12 +1,11 @@
 -- What is read are statements of the grammar, no higher than there is room, and no more than may come.
-use Rattle.std.proofs.Common.{◌≡◌, ℕ, zero, suc, ◌+◌, ◌<◌, ◌≤◌, max, List, [], ◌∷◌, Option, Some, None, Bool, true, false, not, refl, ap, ap₂, sym, subst, ◌∙◌, arith, codes}
-use Rattle.c_syntax.specs.declared.token.Span.{Span}
+use Rattle.std.proofs.Common.{◌≡◌, ℕ, zero, suc, ◌+◌, ◌<◌, ◌≤◌, max, List, [], ◌∷◌, true, false, not, refl, ap, sym, subst, ◌∙◌, arith, codes}
 use Rattle.c_syntax.specs.declared.token.Sign.TheVariants as s
 use Rattle.c_syntax.specs.Tokens.{Lexeme}
-use Rattle.c_syntax.specs.Tree.{BoolExp, Stm, Stms, Assert, If, Empty, More, height, stm_height, stms_height, stm_count, stms_count}
+use Rattle.c_syntax.specs.Tree.{Stm, Stms, Empty, More, stm_height, stms_height, stm_count, stms_count}
 use Rattle.c_syntax.specs.Grammar as g
 use Rattle.c_syntax.specs.Grammar.{Is, IsSign, IsTest, IsStmt, IsBlock, IsStmts, NotElse}
-use Rattle.c_reader.specs.Reading.{E, Out, Parser, and_then, top, expr, brackets, next_is, next_word, is_word, snoc, Counted, Listed, Braced, add_stmt, statements, braced, assertion, alternative, choice, stmt_at, stmt, block}
+use Rattle.c_reader.specs.Reading.{E, Parser, top, expr, brackets, next_is, next_word, snoc, Counted, Listed, Braced, add_stmt, statements, braced, assertion, choice, stmt_at, stmt, block}
 use Rattle.c_reader.proofs.Steps.{OkAnd, ok_then, ok_if, ok_sign, ok_word, ok_many, is_word-same}
 use Rattle.c_reader.proofs.Sound.{Found, Bracketed, expr_sound, brackets_sound}
 
@@ -136,6 +135,7 @@ module _ (names : List (List ℕ)) where
 
   mutual
     unfolding stmt block
+
     pub stmt_sound : (room : ℕ) → ReadsStmt room (stmt names room)
     stmt_sound zero left ts = tt
     stmt_sound (suc room) left ts = stmt_at_sound room (expr names room top) (brackets names (suc room)) (block names room) (λ us. expr_sound names room 2 us (omega arith)) (brackets_sound names (suc room)) (block_sound room) left ts

@@ -1,10 +1,10 @@
 -- Readers, turn by turn and level by level.
-use Rattle.std.proofs.Common.{◌≡◌, ℕ, zero, suc, ◌+◌, ◌-◌, ◌<◌, ◌≤◌, List, [], length, Result, Ok, Err, Option, Some, None, Bool, true, false, refl, ap, sym, ◌∙◌, arith}
+use Rattle.std.proofs.Common.{◌≡◌, ℕ, zero, suc, ◌-◌, ◌<◌, List, [], length, Result, Some, None, Bool, true, false, refl, ap, sym, ◌∙◌, arith}
 use Rattle.c_syntax.specs.declared.fault.SourceFault.{SourceFault}
 use Rattle.c_syntax.specs.declared.fault.SourceFault.TheVariants.{NotBuilt, OutOfMemory}
 use Rattle.c_syntax.specs.Tokens.{Lexeme}
 use Rattle.c_syntax.specs.Tree.{Clause}
-use Rattle.c_reader.specs.Reading.{Out, Parser, E, and_then, many, level, joins, single, expr, brackets, in_brackets, top, Refuses, Gives, add_parameter, parameters, parameters_from, clauses, clauses_from}
+use Rattle.c_reader.specs.Reading.{Out, Parser, and_then, many, level, joins, single, expr, brackets, in_brackets, top, Refuses, Gives, add_parameter, parameters, parameters_from, clauses, clauses_from}
 
 -- ---- items
 

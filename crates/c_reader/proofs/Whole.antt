@@ -1,25 +1,17 @@
 -- Whole programs.
-use Rattle.std.proofs.Common.{◌≡◌, ℕ, zero, suc, ◌+◌, ◌-◌, ◌<◌, ◌≤◌, max, List, [], ◌∷◌, ◌++◌, length, Option, Some, None, Bool, true, false, not, ◌&&◌, refl, ap, sym, subst, ◌∙◌, arith, codes, slice_get}
+use Rattle.std.proofs.Common.{◌≡◌, ℕ, suc, ◌-◌, ◌≤◌, max, List, [], ◌∷◌, ◌++◌, length, true, ap, sym, subst, ◌∙◌, arith, codes}
 use Rattle.c_syntax.specs.declared.token.Sign.TheVariants as s
 use Rattle.c_syntax.specs.Tokens.{Lexeme}
-use Rattle.c_syntax.specs.Tree.{BoolExp, Compare, Not, Group, And, Or, Clause, Prog, height, clauses_height, prog_height, stms_height, stms_count}
+use Rattle.c_syntax.specs.Tree.{Clause, Prog, height, clauses_height, prog_height, stms_count}
 use Rattle.c_syntax.specs.Grammar as g
 use Rattle.c_syntax.specs.Grammar.{Is, IsSign, IsTest, IsIdentifier, IsParameter, IsParameters, IsParameterList, IsContract, IsProgram}
 use Rattle.c_syntax.specs.Reads.{AreDistinct}
-use Rattle.c_reader.specs.Reading.{Out, Parser, and_then, top, expr, next_is, place_of, is_reserved, is_fresh, parameter, add_parameter, next_parameter, parameters, parameter_list, add_clause, clauses, block, finish, program_of}
-use Rattle.c_reader.proofs.Steps.{OkAnd, ok_then, ok_if, ok_check, ok_sign, ok_word, ok_name, ok_many, ok_weaken}
+use Rattle.c_reader.specs.Reading.{top, expr, next_is, is_fresh, parameter, add_parameter, next_parameter, parameters, parameter_list, add_clause, clauses, block, finish, program_of}
+use Rattle.c_reader.proofs.Steps.{OkAnd, ok_then, ok_if, ok_check, ok_sign, ok_word, ok_name, ok_many}
+use Rattle.c_reader.proofs.Complete.{height-pos}
 use Rattle.c_reader.proofs.Names.{fresh-identifier, fresh-distinct}
 use Rattle.c_reader.proofs.Sound.{Found, expr_sound}
 use Rattle.c_reader.proofs.StmtSound.{FoundBlock, block_sound}
-
--- ---- heights
-
-pub height-pos : (e : BoolExp) → 0 < height e
-height-pos (Compare c a b) = omega arith
-height-pos (Not e) = omega arith
-height-pos (Group e) = omega arith
-height-pos (And a b) = omega arith
-height-pos (Or a b) = omega arith
 
 -- ---- parameters
 

@@ -1,9 +1,10 @@
 //! Whole sources.
 
-ghost use Rattle.std.specs.Prelude.{◌≡◌, ◌+◌, ◌-◌, ◌<◌, ◌≤◌, ◌^◌, [], IfOk, length, map};
+ghost use Rattle.std.specs.Prelude.{◌≡◌, ◌+◌, ◌-◌, ◌<◌, ◌≤◌, ◌^◌, [], IfErr, IfOk, length, map};
 ghost use Rattle.c_syntax.specs.Tree as tree;
 ghost use Rattle.c_syntax.specs.Tree.{Prog, program};
 ghost use Rattle.c_syntax.specs.Reads.{IsFirstForm, IsOrMemory};
+ghost use Rattle.c_syntax.specs.declared.fault.SourceFault.TheVariants.{NotBuilt};
 ghost use Rattle.c_reader.specs.Reading as spec;
 ghost use Rattle.c_reader.specs.Reading.{Gives};
 
@@ -44,7 +45,8 @@ fn is_fresh(names: &[Vec<u8>], name: &[u8]) -> bool
 /// `int` and a name that may be declared behind these.
 #[tactic(auto, unfolding(crate::specs::Reading::parameter))]
 fn parameter<'a>(names: &[Vec<u8>], tokens: &'a [Token<'a>]) -> Reading<'a, &'a [u8]>
-    ensures { Gives (λ x. (x.0.now, spec.lexemes x.1.now)) result (spec.parameter (spec.names_of names.now) (spec.lexemes tokens.now)) }
+    ensures gives { Gives (λ x. (x.0.now, spec.lexemes x.1.now)) result (spec.parameter (spec.names_of names.now) (spec.lexemes tokens.now)) }
+    ensures refuses { IfErr result (λ e. e ≡ NotBuilt) }
 {
     let (_, rest) = take_word(b"int", tokens)?;
     let (name, rest) = take_name(rest)?;
@@ -110,7 +112,12 @@ fn parameter_list<'a>(alloc: Global, tokens: &'a [Token<'a>]) -> Result<Names<'a
 
 /// One more `_(requires ..)`.
 #[tactic(auto, using(crate::proofs::Lists::clauses_push), unfolding(crate::specs::Reading::add_clause))]
-fn add_clause<'a>(alloc: Global, names: &[Vec<u8>], room: u32, found: Clauses<'a>) -> Result<Clauses<'a>, SourceFault>
+fn add_clause<'a>(
+    alloc: Global,
+    names: &[Vec<u8>],
+    room: u32,
+    found: Clauses<'a>,
+) -> Result<Clauses<'a>, SourceFault>
     requires names { length names.now < 2 ^ 32 }
     ensures gives { Gives (λ x. (map tree.clause x.0.items, spec.lexemes x.1.now)) result (spec.add_clause (spec.names_of names.now) room (map tree.clause found.entry.0.items) (spec.lexemes found.entry.1.now)) }
     ensures one { IfOk result (λ x. length x.0.items ≡ length found.entry.0.items + 1) }
@@ -120,13 +127,21 @@ fn add_clause<'a>(alloc: Global, names: &[Vec<u8>], room: u32, found: Clauses<'a
     let (_, rest) = take_word(b"requires", rest)?;
     let (condition, _, rest) = test(alloc, names, room.saturating_sub(1), rest)?;
     let (_, rest) = take_sign(Sign::Close, rest)?;
-    let clause = Clause { span, test: condition };
+    let clause = Clause {
+        span,
+        test: condition,
+    };
     add(&mut all, clause)?;
     Ok((all, rest))
 }
 
 /// The clauses of the function, none higher than room.
-fn clauses<'a>(alloc: Global, names: &[Vec<u8>], room: u32, tokens: &'a [Token<'a>]) -> Result<Clauses<'a>, SourceFault>
+fn clauses<'a>(
+    alloc: Global,
+    names: &[Vec<u8>],
+    room: u32,
+    tokens: &'a [Token<'a>],
+) -> Result<Clauses<'a>, SourceFault>
     requires names { length names.now < 2 ^ 32 }
     ensures gives { Gives (λ x. (map tree.clause x.0.items, spec.lexemes x.1.now)) result (spec.clauses (spec.names_of names.now) room (spec.lexemes tokens.now)) }
     ensures few { IfOk result (λ x. length x.0.items ≤ length tokens.now) }
@@ -147,7 +162,6 @@ fn program_of<'a>(alloc: Global, room: u32, tokens: &'a [Token<'a>]) -> Result<P
     requires few { length tokens.now ≤ 65536 }
     requires room { 0 < room }
     ensures gives { Gives (λ p. (program p, [])) result (spec.program_of room MAX_STATEMENTS (spec.lexemes tokens.now)) }
-    ensures few { IfOk result (λ p. length p.parameters.items ≤ length tokens.now + 1) }
 {
     let (_, rest) = take_word(b"void", tokens)?;
     let (_, rest) = take_word(b"main", rest)?;
@@ -169,7 +183,8 @@ fn program_of<'a>(alloc: Global, room: u32, tokens: &'a [Token<'a>]) -> Result<P
 /// The program that the bytes read as, where they are of the form that is built so far.
 pub fn read_source(alloc: Global, bytes: &[u8]) -> Result<Program, SourceFault>
     ensures reads { IfOk result (λ p. IsFirstForm bytes.now (program p)) }
-    ensures same { IfOk result (λ p. IsFirstForm bytes.now (program p)) }
+    // No program but the one that is found, and where there is one no refusal.
+    ensures only { (p : Prog) → IsFirstForm bytes.now p → IsOrMemory program p result }
 {
     if bytes.len() > MAX_BYTES {
         return Err(SourceFault::NotBuilt);

@@ -24,7 +24,12 @@ pub type Braced<'a> = Result<(Vec<Stmt>, u32, Span, &'a [Token<'a>]), SourceFaul
 
 /// `_(assert ..)`
 #[tactic(auto, unfolding(crate::specs::Reading::assertion))]
-fn assertion<'a>(alloc: Global, names: &[Vec<u8>], room: u32, tokens: &'a [Token<'a>]) -> Reading<'a, Stmt>
+fn assertion<'a>(
+    alloc: Global,
+    names: &[Vec<u8>],
+    room: u32,
+    tokens: &'a [Token<'a>],
+) -> Reading<'a, Stmt>
     requires names { length names.now < 2 ^ 32 }
     requires room { 0 < room }
     ensures gives { Gives (λ x. (stm x.0, spec.lexemes x.1.now)) result (spec.assertion (spec.expr (spec.names_of names.now) (room - 1) spec.top) (spec.lexemes tokens.now)) }
@@ -62,7 +67,11 @@ fn choice<'a>(
     let (condition, _, rest) = in_brackets(alloc, names, room, rest)?;
     let (then, left, _, rest) = block(alloc, names, room - 1, left, rest)?;
     if !next_is_word(b"else", rest) {
-        return Ok((branching(span, condition, then, Vec::new(alloc)), left, rest));
+        return Ok((
+            branching(span, condition, then, Vec::new(alloc)),
+            left,
+            rest,
+        ));
     }
     let (_, rest) = take_word(b"else", rest)?;
     let (otherwise, left, _, rest) = block(alloc, names, room - 1, left, rest)?;
@@ -99,7 +108,12 @@ fn stmt<'a>(
 /// One more statement behind those that were found.
 #[cycle(stmt)]
 #[tactic(auto, using(crate::proofs::Lists::stms_push), unfolding(crate::specs::Reading::add_stmt))]
-fn add_stmt<'a>(alloc: Global, names: &[Vec<u8>], room: u32, found: Listed<'a>) -> Result<Listed<'a>, SourceFault>
+fn add_stmt<'a>(
+    alloc: Global,
+    names: &[Vec<u8>],
+    room: u32,
+    found: Listed<'a>,
+) -> Result<Listed<'a>, SourceFault>
     requires names { length names.now < 2 ^ 32 }
     ensures gives { Gives (λ x. ((stms x.0.items, x.1), spec.lexemes x.2.now)) result (spec.add_stmt (spec.stmt (spec.names_of names.now) room) (stms found.entry.0.items, found.entry.1) (spec.lexemes found.entry.2.now)) }
     ensures fewer { IfOk result (λ x. x.1 ≤ found.entry.1) }

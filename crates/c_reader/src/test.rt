@@ -1,7 +1,8 @@
 //! Truth values.
 
-ghost use Rattle.std.specs.Prelude.{◌≡◌, ◌+◌, ◌-◌, ◌<◌, ◌≤◌, ◌^◌, [], IfOk, length, map};
+ghost use Rattle.std.specs.Prelude.{◌≡◌, ◌+◌, ◌-◌, ◌<◌, ◌≤◌, ◌^◌, [], IfErr, IfOk, length, map};
 ghost use Rattle.c_syntax.specs.Tree.{bool_exp};
+ghost use Rattle.c_syntax.specs.declared.fault.SourceFault.TheVariants.{NotBuilt};
 ghost use Rattle.c_reader.specs.Reading as spec;
 ghost use Rattle.c_reader.specs.Reading.{Gives};
 
@@ -48,6 +49,7 @@ fn joined(alloc: Global, level: u8, left: Test, right: Test) -> Result<Test, Sou
 fn comparison<'a>(names: &[Vec<u8>], room: u32, tokens: &'a [Token<'a>]) -> Tested<'a>
     requires { length names.now < 2 ^ 32 }
     ensures gives { Gives (λ x. ((bool_exp x.0, x.1), spec.lexemes x.2.now)) result (spec.comparison (spec.names_of names.now) room (spec.lexemes tokens.now)) }
+    ensures refuses { IfErr result (λ e. e ≡ NotBuilt) }
     ensures small { IfOk result (λ x. (1 < x.1) × (x.1 ≤ room)) }
 {
     if room <= 1 {
@@ -62,7 +64,12 @@ fn comparison<'a>(names: &[Vec<u8>], room: u32, tokens: &'a [Token<'a>]) -> Test
 /// A test in brackets, which are one level of height.
 #[cycle(test)]
 #[tactic(auto, unfolding(crate::specs::Reading::brackets, crate::specs::Reading::in_brackets))]
-pub fn in_brackets<'a>(alloc: Global, names: &[Vec<u8>], room: u32, tokens: &'a [Token<'a>]) -> Tested<'a>
+pub fn in_brackets<'a>(
+    alloc: Global,
+    names: &[Vec<u8>],
+    room: u32,
+    tokens: &'a [Token<'a>],
+) -> Tested<'a>
     requires { length names.now < 2 ^ 32 }
     ensures gives { Gives (λ x. ((bool_exp x.0, x.1), spec.lexemes x.2.now)) result (spec.brackets (spec.names_of names.now) room (spec.lexemes tokens.now)) }
     ensures small { IfOk result (λ x. (1 < x.1) × (x.1 < room)) }

@@ -1,9 +1,10 @@
 //! The first tokens of a list.
 
-ghost use Rattle.std.specs.Prelude.{◌≡◌, [], ◌∷◌, map, length, ◌≤◌, ◌<◌, ◌^◌, MatchOption, IfOk, IfSome, position};
+ghost use Rattle.std.specs.Prelude.{◌≡◌, [], ◌∷◌, map, length, ◌≤◌, ◌<◌, ◌^◌, MatchOption, IfErr, IfOk, IfSome, position};
 ghost use Rattle.c_syntax.specs.Tokens.{lexeme, word_of};
 ghost use Rattle.std.specs.List.{list_any};
 ghost use Rattle.std.specs.Str.{bytes_eq};
+ghost use Rattle.c_syntax.specs.declared.fault.SourceFault.TheVariants.{NotBuilt};
 ghost use Rattle.c_reader.specs.Reading as spec;
 ghost use Rattle.c_reader.specs.Reading.{Gives};
 
@@ -69,6 +70,7 @@ pub type Reading<'a, T> = Result<(T, &'a [Token<'a>]), SourceFault>;
 #[tactic(auto, unfolding(crate::specs::Reading::take_sign))]
 pub fn take_sign<'a>(sign: Sign, tokens: &'a [Token<'a>]) -> Reading<'a, Span>
     ensures gives { Gives (λ x. (x.0, spec.lexemes x.1.now)) result (spec.take_sign sign (spec.lexemes tokens.now)) }
+    ensures refuses { IfErr result (λ e. e ≡ NotBuilt) }
     ensures shorter { IfOk result (λ x. length x.1.now ≤ length tokens.now) }
 {
     match split(tokens) {
@@ -87,6 +89,7 @@ pub fn take_sign<'a>(sign: Sign, tokens: &'a [Token<'a>]) -> Reading<'a, Span>
 #[tactic(auto, unfolding(crate::specs::Reading::take_word))]
 pub fn take_word<'a>(word: &[u8], tokens: &'a [Token<'a>]) -> Reading<'a, Span>
     ensures gives { Gives (λ x. (x.0, spec.lexemes x.1.now)) result (spec.take_word word.now (spec.lexemes tokens.now)) }
+    ensures refuses { IfErr result (λ e. e ≡ NotBuilt) }
     ensures shorter { IfOk result (λ x. length x.1.now ≤ length tokens.now) }
 {
     match split(tokens) {
@@ -104,7 +107,8 @@ pub fn take_word<'a>(word: &[u8], tokens: &'a [Token<'a>]) -> Reading<'a, Span>
 /// The name that comes next.
 #[tactic(auto, unfolding(crate::specs::Reading::take_name))]
 pub fn take_name<'a>(tokens: &'a [Token<'a>]) -> Reading<'a, &'a [u8]>
-    ensures { Gives (λ x. (x.0.now, spec.lexemes x.1.now)) result (spec.take_name (spec.lexemes tokens.now)) }
+    ensures gives { Gives (λ x. (x.0.now, spec.lexemes x.1.now)) result (spec.take_name (spec.lexemes tokens.now)) }
+    ensures refuses { IfErr result (λ e. e ≡ NotBuilt) }
 {
     match split(tokens) {
         Some((first, rest)) => match first.kind {
@@ -118,7 +122,8 @@ pub fn take_name<'a>(tokens: &'a [Token<'a>]) -> Reading<'a, &'a [u8]>
 /// The `==` or `!=` that comes next.
 #[tactic(auto, unfolding(crate::specs::Reading::take_comparison))]
 pub fn take_comparison<'a>(tokens: &'a [Token<'a>]) -> Reading<'a, Comparison>
-    ensures { Gives (λ x. (x.0, spec.lexemes x.1.now)) result (spec.take_comparison (spec.lexemes tokens.now)) }
+    ensures gives { Gives (λ x. (x.0, spec.lexemes x.1.now)) result (spec.take_comparison (spec.lexemes tokens.now)) }
+    ensures refuses { IfErr result (λ e. e ≡ NotBuilt) }
 {
     match split(tokens) {
         Some((first, rest)) => match first.kind {
@@ -142,7 +147,8 @@ pub fn find(names: &[Vec<u8>], name: &[u8]) -> Option<usize>
 #[tactic(auto, using(crate::proofs::Names::parameter_found), unfolding(crate::specs::Reading::take_operand))]
 pub fn take_operand<'a>(names: &[Vec<u8>], tokens: &'a [Token<'a>]) -> Reading<'a, Operand>
     requires { length names.now < 2 ^ 32 }
-    ensures { Gives (λ x. (x.0, spec.lexemes x.1.now)) result (spec.take_operand (spec.names_of names.now) (spec.lexemes tokens.now)) }
+    ensures gives { Gives (λ x. (x.0, spec.lexemes x.1.now)) result (spec.take_operand (spec.names_of names.now) (spec.lexemes tokens.now)) }
+    ensures refuses { IfErr result (λ e. e ≡ NotBuilt) }
 {
     match split(tokens) {
         Some((first, rest)) => match first.kind {

@@ -1,7 +1,7 @@
 -- The two laws: what is read is a certificate's text, and a certificate's text is read.
-use Rattle.std.proofs.Common.{◌≡◌, ℕ, ◌+◌, ◌^◌, ◌<◌, ◌≤◌, ℤ, pos, negsuc, Bool, true, false, cond, eqb, List, [], ◌∷◌, ◌++◌, length, All, Option, Some, None, Result, Ok, Err, arith, eq-eqb, refl, sym, ap, subst, ◌∙◌, append_assoc}
+use Rattle.std.proofs.Common.{◌≡◌, ℕ, ◌^◌, ◌<◌, ◌≤◌, ℤ, pos, negsuc, eqb, List, [], ◌∷◌, ◌++◌, length, All, Some, None, Result, Ok, Err, arith, eq-eqb, refl, sym, ap, subst, ◌∙◌, append_assoc}
 use Rattle.std.proofs.lemmas.Bool.{eqb-true, ne_eqb}
-use Rattle.std.proofs.lemmas.List.{append-nil, nil_from_length, length-append}
+use Rattle.std.proofs.lemmas.List.{nil_from_length, length-append}
 use Rattle.std.proofs.lemmas.List.Elements.{All-from_recursion, recursion_from_All}
 use Rattle.std.proofs.lemmas.Option.{cond_some}
 use Rattle.std.specs.Prelude.{codes, decimal, FitsSigned, IfOk}
@@ -9,14 +9,13 @@ use Rattle.std.specs.Int.{w128}
 use Rattle.std.specs.Fmt.{signed_decimal}
 use Rattle.std.specs.List.{flat_map, AllByRecursion}
 use Rattle.terms.specs.declared.term.Literal.{Literal}
-use Rattle.cert_format.specs.declared.certificate.RuleName.{RuleName}
 use Rattle.cert_format.specs.declared.certificate.Certificate.{Certificate}
 use Rattle.cert_format.specs.declared.certificate.Step.{Step}
 use Rattle.cert_format.specs.declared.decode.CertFault.{CertFault}
 use Rattle.cert_format.specs.declared.decode.CertFault.TheVariants.{Refused, OutOfMemory}
 use Rattle.cert_format.specs.Text.{rule_text, literal_text, numbers_text, clause_text, step_text, literals_of, block_text, text_of, IsStep, IsBlock, IsCertText, IsOrMemory}
-use Rattle.cert_format.specs.Reading.{◌>>=◌, Gives, text_at, natural_at, number_at, literal_at, rule_at, numbers_at, clause_at, times_at, step_at, block_at, certificate_at}
-use Rattle.cert_format.proofs.Words.{some_is, bind_some, digit_greatest, text_takes, text_again, natural_takes, natural_again, Stops}
+use Rattle.cert_format.specs.Reading.{Gives, text_at, natural_at, number_at, literal_at, rule_at, numbers_at, clause_at, times_at, step_at, block_at, certificate_at}
+use Rattle.cert_format.proofs.Words.{some_is, bind_some, digit_greatest, text_takes, natural_takes, natural_again}
 use Rattle.cert_format.proofs.Parts.{decimal_leads, rule_takes, rule_again, number_takes, number_again, literal_takes, literal_again}
 use Rattle.cert_format.proofs.Lists.{times_takes, times_again, many_takes, many_again, many_long}
 
@@ -74,7 +73,7 @@ step_takes bytes x e =
     let numbers = numbers_take r.0.1 n.0 n.1 in
     let clause = clause_takes n.0.1 c.0 c.1 in
     let text : bytes ≡ step_text made.0 ++ made.1 = step_joined bytes (codes "s ") a.0 (rule_text r.0.0) r.0.1 (numbers_text n.0.0) (codes " =") n.0.1 (clause_text c.0.0) (codes "\n") c.0.1
-        (text_takes (codes "s ") bytes a.0 a.1) (rule_takes a.0 r.0 r.1) numbers.0 clause.0 in
+    (text_takes (codes "s ") bytes a.0 a.1) (rule_takes a.0 r.0 r.1) numbers.0 clause.0 in
     subst (λ (y : Step × List ℕ). (bytes ≡ step_text y.0 ++ y.1) × IsStep y.0) (some_is made x c.2)
     (text, record { numbers = All-from_recursion IsNumber n.0.0 numbers.1; terms = All-from_recursion IsTerm c.0.0 clause.1 })
 
@@ -106,14 +105,23 @@ block_takes bytes x e =
     let few : length s.0.0 ≤ 1048576 = omega (arith, count.1, steps.1) in
     let small : literals_of s.0.0 ≤ 4194304 = omega (arith, literals.1, same) in
     let text : bytes ≡ block_text s.0.0 ++ s.0.1 = block_joined bytes (codes "condition 0 ") a.0 (decimal (length s.0.0)) n.0.1 (codes " ") b.0 (decimal (literals_of s.0.0)) l.0.1 (codes "\n") c.0 (flat_map step_text s.0.0) s.0.1
-        (text_takes (codes "condition 0 ") bytes a.0 a.1)
-        (count.0 ∙ ap (λ (k : ℕ). decimal k ++ n.0.1) (sym steps.1))
-        (text_takes (codes " ") n.0.1 b.0 b.1)
-        (literals.0 ∙ ap (λ (k : ℕ). decimal k ++ l.0.1) (sym same))
-        (text_takes (codes "\n") l.0.1 c.0 c.1)
-        steps.0 in
+    (text_takes (codes "condition 0 ") bytes a.0 a.1)
+    (count.0 ∙ ap (λ (k : ℕ). decimal k ++ n.0.1) (sym steps.1))
+    (text_takes (codes " ") n.0.1 b.0 b.1)
+    (literals.0 ∙ ap (λ (k : ℕ). decimal k ++ l.0.1) (sym same))
+    (text_takes (codes "\n") l.0.1 c.0 c.1)
+    steps.0 in
     subst (λ (y : List Step × List ℕ). (bytes ≡ block_text y.0 ++ y.1) × IsBlock y.0) g.1
     (text, record { each = All-from_recursion IsStep s.0.0 steps.2; few = few; small = small })
+
+pub block_again : (steps : List Step) (rest : List ℕ) → IsBlock steps → block_at (block_text steps ++ rest) ≡ Some (steps, rest)
+unfolding block_at
+block_again steps rest fits =
+    let lines : List ℕ = flat_map step_text steps ++ rest in
+    let few = fits.few in
+    let small = fits.small in
+    ap block_at (regrouped (codes "condition 0 ") (decimal (length steps)) (codes " ") (decimal (literals_of steps)) (codes "\n") (flat_map step_text steps) rest)
+    ∙ rw (natural_again 1048576 (length steps) (32 ∷ (decimal (literals_of steps) ++ (10 ∷ lines))) (omega arith) few refl, natural_again 4194304 (literals_of steps) (10 ∷ lines) (omega arith) small refl, times_again step_text IsStep step_at (λ s r h t. step_again s r h) steps rest (recursion_from_All IsStep steps fits.each), eq-eqb (literals_of steps) (literals_of steps) refl) refl
 
 -- ---- a certificate
 
@@ -134,13 +142,27 @@ certificate_takes bytes k e =
     let nothing : z.0 ≡ [] = nil_from_length z.0 (eqb-true _ _ g.0) in
     let few : length s.0.0 ≤ 20000 = omega (arith, count.1, blocks.1) in
     let text : bytes ≡ text_of s.0.0 = all_joined bytes (codes "vcc-cert 1\nconditions ") a.0 (decimal (length s.0.0)) n.0.1 (codes "\n") c.0 (flat_map block_text s.0.0) s.0.1 (codes "end\n")
-        (text_takes (codes "vcc-cert 1\nconditions ") bytes a.0 a.1)
-        (count.0 ∙ ap (λ (m : ℕ). decimal m ++ n.0.1) (sym blocks.1))
-        (text_takes (codes "\n") n.0.1 c.0 c.1)
-        blocks.0
-        (text_takes (codes "end\n") s.0.1 z.0 z.1 ∙ ap (λ (t : List ℕ). codes "end\n" ++ t) nothing) in
+    (text_takes (codes "vcc-cert 1\nconditions ") bytes a.0 a.1)
+    (count.0 ∙ ap (λ (m : ℕ). decimal m ++ n.0.1) (sym blocks.1))
+    (text_takes (codes "\n") n.0.1 c.0 c.1)
+    blocks.0
+    (text_takes (codes "end\n") s.0.1 z.0 z.1 ∙ ap (λ (t : List ℕ). codes "end\n" ++ t) nothing) in
     subst (λ (y : List (List Step)). IsCertText bytes y) g.1 (record { spelled = text; each = All-from_recursion IsBlock s.0.0 blocks.2; few = few })
 
 pub is_found : (bytes : List ℕ) (r : Result Certificate CertFault) → Gives (λ k. k.blocks.items) r (certificate_at bytes) → IfOk r (λ k. IsCertText bytes k.blocks.items)
 is_found bytes (Ok k) given = certificate_takes bytes k.blocks.items given
 is_found bytes (Err e) given = tt
+
+pub certificate_again : (k : List (List Step)) → All IsBlock k → length k ≤ 20000 → certificate_at (text_of k) ≡ Some k
+unfolding certificate_at
+certificate_again k each few =
+    rw (natural_again 20000 (length k) (10 ∷ (flat_map block_text k ++ codes "end\n")) (omega arith) few refl, times_again block_text IsBlock block_at (λ s r h t. block_again s r h) k (codes "end\n") (recursion_from_All IsBlock k each)) refl
+
+pub is_only : (bytes : List ℕ) (r : Result Certificate CertFault) → Gives (λ k. k.blocks.items) r (certificate_at bytes) → (k : List (List Step)) → IsCertText bytes k → IsOrMemory k r
+is_only bytes (Ok c) given k is =
+    let again : certificate_at bytes ≡ Some k = ap certificate_at is.spelled ∙ certificate_again k is.each is.few in
+    some_is k c.blocks.items (sym again ∙ given)
+is_only bytes (Err OutOfMemory) given k is = tt
+is_only bytes (Err Refused) given k is =
+    let again : certificate_at bytes ≡ Some k = ap certificate_at is.spelled ∙ certificate_again k is.each is.few in
+    absurd cc

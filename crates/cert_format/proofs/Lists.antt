@@ -1,10 +1,10 @@
 -- The same of items, one after the other.
-use Rattle.std.proofs.Common.{◌≡◌, ℕ, zero, suc, ◌+◌, ◌<◌, ◌≤◌, List, [], ◌∷◌, ◌++◌, length, Option, Some, None, arith, refl, sym, ap, subst, ◌∙◌, inl, inr, append_assoc}
+use Rattle.std.proofs.Common.{◌≡◌, ℕ, zero, suc, ◌<◌, ◌≤◌, List, [], ◌∷◌, ◌++◌, length, Option, Some, None, arith, refl, sym, ap, subst, ◌∙◌, inl, inr, append_assoc}
 use Rattle.std.proofs.lemmas.List.{length-append}
 use Rattle.std.proofs.lemmas.List.Concat.{flat_map-cons}
 use Rattle.std.specs.Prelude.{codes}
 use Rattle.std.specs.List.{flat_map, AllByRecursion}
-use Rattle.cert_format.specs.Reading.{◌>>=◌, otherwise, text_at, many_at, times_at}
+use Rattle.cert_format.specs.Reading.{◌>>=◌, text_at, many_at, times_at}
 use Rattle.cert_format.proofs.Words.{some_is, bind_some, text_takes, text_again, Stops}
 use Rattle.cert_format.proofs.Parts.{otherwise_some}
 
@@ -18,6 +18,9 @@ Again text Fits Ends item = (v : _) (rest : List ℕ) → Fits v → Ends rest �
 
 -- ---- so many items
 
+times_joined : {V : Type 0} (text : V → List ℕ) (v : V) (vs : List V) (bytes behind rest : List ℕ) → bytes ≡ text v ++ behind → behind ≡ flat_map text vs ++ rest → bytes ≡ flat_map text (v ∷ vs) ++ rest
+times_joined text v vs bytes behind rest e1 e2 = rw flat_map-cons (e1 ∙ ap (λ (t : List ℕ). text v ++ t) e2 ∙ sym (append_assoc (text v) (flat_map text vs) rest))
+
 pub times_takes : {V : Type 0} (text : V → List ℕ) (Fits : V → Type 0) (item : List ℕ → Option (V × List ℕ)) (law : Takes text Fits item) (n : ℕ) (bytes : List ℕ) (x : List V × List ℕ)
     → times_at item n bytes ≡ Some x → (bytes ≡ flat_map text x.0 ++ x.1) × (length x.0 ≡ n) × AllByRecursion Fits x.0
 unfolding times_at
@@ -28,7 +31,7 @@ times_takes {V = V} text Fits item law (suc n) bytes x e =
     let b = bind_some (times_at item n a.0.1) (λ others. Some (a.0.0 ∷ others.0, others.1)) x a.2 in
     let first = law bytes a.0 a.1 in
     let more = times_takes text Fits item law n a.0.1 b.0 b.1 in
-    let both : bytes ≡ flat_map text (a.0.0 ∷ b.0.0) ++ b.0.1 = rw flat_map-cons (first.0 ∙ ap (λ (t : List ℕ). text a.0.0 ++ t) more.0 ∙ sym (append_assoc (text a.0.0) (flat_map text b.0.0) b.0.1)) in
+    let both : bytes ≡ flat_map text (a.0.0 ∷ b.0.0) ++ b.0.1 = times_joined text a.0.0 b.0.0 bytes a.0.1 b.0.1 first.0 more.0 in
     subst (λ (y : List V × List ℕ). (bytes ≡ flat_map text y.0 ++ y.1) × (length y.0 ≡ suc n) × AllByRecursion Fits y.0) (some_is (a.0.0 ∷ b.0.0, b.0.1) x b.2) (both, ap suc more.1, (first.1, more.2))
 
 pub times_again : {V : Type 0} (text : V → List ℕ) (Fits : V → Type 0) (item : List ℕ → Option (V × List ℕ)) (law : Again text Fits (λ rest. Unit {0}) item) (vs : List V) (rest : List ℕ)
@@ -47,6 +50,9 @@ spaced text v = 32 ∷ text v
 regrouped : {V : Type 0} (end : List ℕ) (text : V → List ℕ) (v : V) (vs : List V) (rest : List ℕ) → flat_map (spaced text) (v ∷ vs) ++ (end ++ rest) ≡ 32 ∷ (text v ++ (flat_map (spaced text) vs ++ (end ++ rest)))
 regrouped end text v vs rest = ap (λ (x : List ℕ). x ++ (end ++ rest)) (flat_map-cons (spaced text) v vs) ∙ ap (λ (x : List ℕ). 32 ∷ x) (append_assoc (text v) (flat_map (spaced text) vs) (end ++ rest))
 
+many_joined : {V : Type 0} (end : List ℕ) (text : V → List ℕ) (v : V) (vs : List V) (bytes word behind rest : List ℕ) → bytes ≡ 32 ∷ word → word ≡ text v ++ behind → behind ≡ flat_map (spaced text) vs ++ (end ++ rest) → bytes ≡ flat_map (spaced text) (v ∷ vs) ++ (end ++ rest)
+many_joined end text v vs bytes word behind rest e1 e2 e3 = e1 ∙ ap (λ (t : List ℕ). 32 ∷ t) (e2 ∙ ap (λ (t : List ℕ). text v ++ t) e3) ∙ sym (regrouped end text v vs rest)
+
 pub many_takes : {V : Type 0} (end : List ℕ) (text : V → List ℕ) (Fits : V → Type 0) (item : List ℕ → Option (V × List ℕ)) (law : Takes text Fits item) (k : ℕ) (bytes : List ℕ) (x : List V × List ℕ)
     → many_at end item k bytes ≡ Some x → (bytes ≡ flat_map (spaced text) x.0 ++ (end ++ x.1)) × AllByRecursion Fits x.0
 unfolding many_at
@@ -62,8 +68,7 @@ many_takes {V = V} end text Fits item law (suc k) bytes x e =
           let b = bind_some (many_at end item k a.0.1) (λ others. Some (a.0.0 ∷ others.0, others.1)) x a.2 in
           let first = law s.0 a.0 a.1 in
           let more = many_takes end text Fits item law k a.0.1 b.0 b.1 in
-          let both : bytes ≡ flat_map (spaced text) (a.0.0 ∷ b.0.0) ++ (end ++ b.0.1) =
-              text_takes (codes " ") bytes s.0 s.1 ∙ ap (λ (t : List ℕ). 32 ∷ t) (first.0 ∙ ap (λ (t : List ℕ). text a.0.0 ++ t) more.0) ∙ sym (regrouped end text a.0.0 b.0.0 b.0.1) in
+          let both : bytes ≡ flat_map (spaced text) (a.0.0 ∷ b.0.0) ++ (end ++ b.0.1) = many_joined end text a.0.0 b.0.0 bytes s.0 a.0.1 b.0.1 (text_takes (codes " ") bytes s.0 s.1) first.0 more.0 in
           subst (λ (y : List V × List ℕ). (bytes ≡ flat_map (spaced text) y.0 ++ (end ++ y.1)) × AllByRecursion Fits y.0) (some_is (a.0.0 ∷ b.0.0, b.0.1) x b.2) (both, (first.1, more.1))
     ]
 

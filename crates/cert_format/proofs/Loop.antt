@@ -3,7 +3,7 @@ use Rattle.std.proofs.Common.{◌≡◌, ℕ, zero, suc, ◌-◌, ◌+◌, ◌�
 use Rattle.std.proofs.lemmas.List.{append-nil}
 use Rattle.cert_format.specs.declared.decode.CertFault.{CertFault}
 use Rattle.cert_format.specs.declared.decode.CertFault.TheVariants.{Refused, OutOfMemory}
-use Rattle.cert_format.specs.Reading.{◌>>=◌, otherwise, Fails, text_at, many_at, times_at}
+use Rattle.cert_format.specs.Reading.{◌>>=◌, Fails, text_at, many_at, times_at}
 
 -- what was read before, and what is still read
 abbrev pub with_front : {V : Type 0} → List V → Option (List V × List ℕ) → Option (List V × List ℕ)

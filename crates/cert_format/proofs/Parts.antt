@@ -1,8 +1,8 @@
 -- The same of a rule's name, of a number that it takes, and of a literal.
-use Rattle.std.proofs.Common.{◌≡◌, ℕ, zero, suc, ◌+◌, ◌-◌, ◌%◌, ◌/◌, ◌^◌, ◌<◌, ◌≤◌, ℤ, pos, negsuc, Bool, true, false, cond, eqb, List, [], ◌∷◌, ◌++◌, Option, Some, None, arith, refl, sym, ap, subst, ◌∙◌, inl, inr, ◌⊎◌, append_assoc}
+use Rattle.std.proofs.Common.{◌≡◌, ℕ, suc, ◌+◌, ◌-◌, ◌%◌, ◌^◌, ◌<◌, ℤ, pos, negsuc, Bool, true, false, cond, eqb, List, [], ◌∷◌, ◌++◌, Option, Some, None, arith, refl, sym, ap, subst, ◌∙◌, inl, inr, ◌⊎◌}
 use Rattle.std.proofs.lemmas.Bool.{ne_eqb, eqb-true, eqb-false, cases_Bool, cases_eq, or_cases}
 use Rattle.std.proofs.lemmas.Fmt.{decimal_by_steps_wide}
-use Rattle.std.specs.Prelude.{◌||◌, codes, decimal, FitsSigned}
+use Rattle.std.specs.Prelude.{◌||◌, decimal, FitsSigned}
 use Rattle.std.specs.Int.{w128}
 use Rattle.std.specs.Fmt.{signed_decimal}
 use Rattle.std.specs.Char.{is_ascii_digit}
@@ -35,18 +35,18 @@ rule_takes bytes x e =
     elim (otherwise_some _ _ x e) [
       | inl h ↦ named_takes Root bytes x h
       | inr e1 ↦ elim (otherwise_some _ _ x e1) [
-          | inl h ↦ named_takes Conn bytes x h
-          | inr e2 ↦ elim (otherwise_some _ _ x e2) [
-              | inl h ↦ named_takes Chain bytes x h
-              | inr e3 ↦ elim (otherwise_some _ _ x e3) [
-                  | inl h ↦ named_takes Refl bytes x h
-                  | inr e4 ↦ elim (otherwise_some _ _ x e4) [
-                      | inl h ↦ named_takes Sym bytes x h
-                      | inr h ↦ named_takes Trans bytes x h
-                    ]
-                ]
+        | inl h ↦ named_takes Conn bytes x h
+        | inr e2 ↦ elim (otherwise_some _ _ x e2) [
+          | inl h ↦ named_takes Chain bytes x h
+          | inr e3 ↦ elim (otherwise_some _ _ x e3) [
+            | inl h ↦ named_takes Refl bytes x h
+            | inr e4 ↦ elim (otherwise_some _ _ x e4) [
+              | inl h ↦ named_takes Sym bytes x h
+              | inr h ↦ named_takes Trans bytes x h
             ]
+          ]
         ]
+      ]
     ]
 
 pub rule_again : (rule : RuleName) (rest : List ℕ) → rule_at (rule_text rule ++ rest) ≡ Some (rule, rest)
@@ -109,9 +109,9 @@ sign_is c h =
     elim (cases_eq c 43) [
       | inl is ↦ rw is refl
       | inr other ↦ elim (or_cases (eqb c 43) (eqb c 45) h) [
-          | inl is ↦ absurd (other (eqb-true c 43 is))
-          | inr is ↦ rw (ne_eqb c 43 other) (sym (eqb-true c 45 is))
-        ]
+        | inl is ↦ absurd (other (eqb-true c 43 is))
+        | inr is ↦ rw (ne_eqb c 43 other) (sym (eqb-true c 45 is))
+      ]
     ]
 
 pub literal_takes : (bytes : List ℕ) (x : Literal × List ℕ) → literal_at bytes ≡ Some x → (bytes ≡ literal_text x.0 ++ x.1) × (x.0.term < 2 ^ 32)

@@ -1,21 +1,15 @@
 -- What is read of a part is its text, and a part's text is read again.
-use Rattle.std.proofs.Common.{◌≡◌, ℕ, zero, suc, ◌+◌, ◌-◌, ◌*◌, ◌/◌, ◌%◌, ◌^◌, ◌<◌, ◌≤◌, ℤ, pos, negsuc, Bool, true, false, cond, eqb, leb, List, [], ◌∷◌, ◌++◌, length, take, drop, Option, Some, None, arith, refl, sym, ap, subst, ◌∙◌, inl, inr, eq-eqb, append_assoc}
-use Rattle.std.proofs.lemmas.Bool.{le-leb, leb-true, lt-leb, ne_eqb, eqb-true, eqb-false, cases_Bool, cases_eq}
+use Rattle.std.proofs.Common.{◌≡◌, ℕ, ◌+◌, ◌-◌, ◌*◌, ◌/◌, ◌%◌, ◌^◌, ◌<◌, ◌≤◌, true, false, leb, List, [], ◌∷◌, ◌++◌, length, take, drop, Option, Some, None, arith, refl, sym, ap, subst, ◌∙◌, inl, inr, append_assoc}
+use Rattle.std.proofs.lemmas.Bool.{le-leb, leb-true, cases_Bool, cases_eq}
 use Rattle.std.proofs.lemmas.Bool.Decides.{nat_tests}
 use Rattle.std.proofs.lemmas.Cmp.{nat_list_eq_equiv}
 use Rattle.std.proofs.lemmas.Fmt.{decimal_digit, decimal_step_wide, decimal_by_steps_wide}
 use Rattle.std.proofs.lemmas.List.{take_at, drop_at, take-append-drop}
 use Rattle.std.proofs.lemmas.Option.{cond_some}
-use Rattle.std.specs.Prelude.{◌||◌, nat_eq, codes, decimal, FitsSigned}
-use Rattle.std.specs.Int.{w128}
-use Rattle.std.specs.Fmt.{signed_decimal}
+use Rattle.std.specs.Prelude.{nat_eq, decimal}
 use Rattle.std.specs.Char.{is_ascii_digit}
 use Rattle.std.specs.Cmp.Lexicographic.{pointwise, same_text}
-use Rattle.terms.specs.declared.term.Literal.{Literal}
-use Rattle.cert_format.specs.declared.certificate.RuleName.{RuleName}
-use Rattle.cert_format.specs.declared.certificate.RuleName.TheVariants.{Root, Conn, Chain, Refl, Sym, Trans}
-use Rattle.cert_format.specs.Text.{rule_text, literal_text}
-use Rattle.cert_format.specs.Reading.{◌>>=◌, otherwise, text_at, at_most, digits_at, natural_at, number_at, literal_at, named, rule_at}
+use Rattle.cert_format.specs.Reading.{◌>>=◌, text_at, at_most, digits_at, natural_at}
 use Rattle.cert_format.proofs.First.{digits_grow, natural_zero, natural_refused, natural_digits}
 
 abbrev some : {A : Type 0} → A → Option A
@@ -107,20 +101,20 @@ natural_takes most (c ∷ rest) x wide e =
           let zero-is = some_is (0, rest) x (sym (natural_zero most (c ∷ rest) c rest refl is) ∙ e) in
           subst (λ (y : ℕ × List ℕ). ((c ∷ rest) ≡ decimal y.0 ++ y.1) × (y.0 ≤ most)) zero-is (rw (is, decimal_digit 0 (omega arith)) refl, omega arith)
       | inr other ↦ elim (cases_Bool (is_ascii_digit c)) [
-          | inl digit ↦
-              let g = cond_some (leb (digits_at 0 (c ∷ rest)).0 most) (digits_at 0 (c ∷ rest)) x (sym (natural_digits most (c ∷ rest) c rest refl other digit) ∙ e) in
-              let least = digit_least c digit in
-              let greatest = digit_greatest c digit in
-              let n : ℕ = 0 * 10 + (c - 48) in
-              let one : digits_at n rest ≡ x = sym (one_more 0 c rest digit) ∙ g.1 in
-              let le : (digits_at 0 (c ∷ rest)).0 ≤ most = leb-true _ _ g.0 in
-              let small : x.0 ≤ most = subst (λ (y : ℕ × List ℕ). y.0 ≤ most) g.1 le in
-              let small-n : (digits_at n rest).0 < 10 ^ 64 = subst (λ (y : ℕ × List ℕ). y.0 < 10 ^ 64) (sym one) (omega arith) in
-              let is : 48 + n ≡ c = omega arith in
-              let first : c ∷ rest ≡ decimal n ++ rest = rw (decimal_digit n (omega arith), is) refl in
-              (first ∙ digits_take n rest (omega arith) small-n ∙ ap (λ (y : ℕ × List ℕ). decimal y.0 ++ y.1) one, small)
-          | inr no_digit ↦ absurd (let none = natural_refused most (c ∷ rest) c rest refl other no_digit in cc)
-        ]
+        | inl digit ↦
+            let g = cond_some (leb (digits_at 0 (c ∷ rest)).0 most) (digits_at 0 (c ∷ rest)) x (sym (natural_digits most (c ∷ rest) c rest refl other digit) ∙ e) in
+            let least = digit_least c digit in
+            let greatest = digit_greatest c digit in
+            let n : ℕ = 0 * 10 + (c - 48) in
+            let one : digits_at n rest ≡ x = sym (one_more 0 c rest digit) ∙ g.1 in
+            let le : (digits_at 0 (c ∷ rest)).0 ≤ most = leb-true _ _ g.0 in
+            let small : x.0 ≤ most = subst (λ (y : ℕ × List ℕ). y.0 ≤ most) g.1 le in
+            let small-n : (digits_at n rest).0 < 10 ^ 64 = subst (λ (y : ℕ × List ℕ). y.0 < 10 ^ 64) (sym one) (omega arith) in
+            let is : 48 + n ≡ c = omega arith in
+            let first : c ∷ rest ≡ decimal n ++ rest = rw (decimal_digit n (omega arith), is) refl in
+            (first ∙ digits_take n rest (omega arith) small-n ∙ ap (λ (y : ℕ × List ℕ). decimal y.0 ++ y.1) one, small)
+        | inr no_digit ↦ absurd (let none = natural_refused most (c ∷ rest) c rest refl other no_digit in cc)
+      ]
     ]
 
 abbrev Begins : ℕ → ℕ → List ℕ → Type 0

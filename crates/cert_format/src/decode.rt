@@ -1,6 +1,6 @@
 //! Reading a certificate's text.
 
-ghost use Rattle.std.specs.Prelude.{IfOk, IfSome, IfNone, List, ◌≡◌, ℕ, ◌+◌, ◌-◌, ◌*◌, ◌^◌, ◌<◌, ◌≤◌, ◌==◌, MatchOption, length, codes, true, negsuc};
+ghost use Rattle.std.specs.Prelude.{IfOk, IfSome, IfNone, IsTrue, List, ◌≡◌, ◌+◌, ◌-◌, ◌*◌, ◌^◌, ◌<◌, ◌≤◌, ◌==◌, ◌<ℤ◌, length, negsuc, pos, true};
 ghost use Rattle.std.specs.Char.{is_ascii_digit};
 ghost use Rattle.cert_format.specs.declared.certificate.Step.{Step as AnyStep};
 ghost use Rattle.cert_format.specs.declared.decode.CertFault.TheVariants.{OutOfMemory};
@@ -113,7 +113,8 @@ fn count(most: u32, bytes: &[u8]) -> Option<(u32, &[u8])>
 /// The negative number of this size.
 fn negative(size: u128) -> i128
     requires { (0 < size) × (size ≤ 2 ^ 127) }
-    ensures { result ≡ negsuc (size - 1) }
+    ensures value { result ≡ negsuc (size - 1) }
+    ensures below { result <ℤ pos 0 }
 {
     -1 - ((size - 1) as i128)
 }
@@ -238,7 +239,7 @@ fn step(alloc: Global, bytes: &[u8]) -> Result<(Step, &[u8]), CertFault>
     Ok((step, rest))
 }
 
-/// So many steps.
+/// As many steps as the count says.
 fn steps(alloc: Global, count: u32, bytes: &[u8]) -> Result<(Vec<Step>, &[u8]), CertFault>
     ensures reads { Gives (λ x. (x.0.items, x.1.now)) result (times_at reading.step_at count bytes.now) }
     ensures within { IfOk result (λ x. length x.1.now ≤ length bytes.now) }
@@ -256,6 +257,7 @@ fn steps(alloc: Global, count: u32, bytes: &[u8]) -> Result<(Vec<Step>, &[u8]), 
 /// Whether the steps have so many literals.
 fn has_literals(steps: &[Step], count: u32) -> bool
     ensures value { result ≡ (literals_of steps.now == count) }
+    ensures few { IsTrue result → literals_of steps.now < 2 ^ 32 }
 {
     let mut left = count as usize;
     for step in steps {
@@ -285,12 +287,8 @@ fn block(alloc: Global, bytes: &[u8]) -> Result<(Refutation, &[u8]), CertFault>
     Ok((Refutation::new(steps), rest))
 }
 
-/// So many blocks.
-fn blocks(
-    alloc: Global,
-    count: u32,
-    bytes: &[u8],
-) -> Result<(Vec<Refutation>, &[u8]), CertFault>
+/// As many blocks as the count says.
+fn blocks(alloc: Global, count: u32, bytes: &[u8]) -> Result<(Vec<Refutation>, &[u8]), CertFault>
     ensures reads { Gives (λ x. (x.0.items, x.1.now)) result (times_at reading.block_at count bytes.now) }
     ensures within { IfOk result (λ x. length x.1.now ≤ length bytes.now) }
 {
@@ -324,7 +322,7 @@ fn certificate(alloc: Global, bytes: &[u8]) -> Result<Certificate, CertFault>
 pub fn decode(alloc: Global, bytes: &[u8]) -> Result<Certificate, CertFault>
     ensures text { IfOk result (λ k. IsCertText bytes.now k.blocks.items) }
     // No certificate but the one that is found, and where there is one no refusal.
-    // ensures only { (k : List (List AnyStep)) → IsCertText bytes.now k → IsOrMemory k result }
+    ensures only { (k : List (List AnyStep)) → IsCertText bytes.now k → IsOrMemory k result }
 {
     certificate(alloc, bytes)
 }

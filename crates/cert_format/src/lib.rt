@@ -3,3 +3,5 @@
 
 pub mod certificate;
 pub mod decode;
+#[cfg(test)]
+mod tests;

@@ -1,4 +1,4 @@
-use Rattle.std.proofs.Common.{◌≡◌, ℕ, zero, suc, ◌+◌, ◌<◌, ◌≤◌, List, [], ◌∷◌, ◌++◌, length, All, Contains, Some, None, slice_get, get_or, ◌⊎◌, inl, inr, refl, ap, sym, ◌∙◌, subst, arith, length-append}
+use Rattle.std.proofs.Common.{◌^◌, ◌≡◌, ℕ, zero, suc, ◌+◌, ◌<◌, ◌≤◌, List, [], ◌∷◌, ◌++◌, length, All, Contains, Some, None, slice_get, get_or, ◌⊎◌, inl, inr, refl, ap, sym, ◌∙◌, subst, arith, length-append}
 use Rattle.std.proofs.lemmas.Option.{slice_get_within, get_or_from_slice_get}
 use Rattle.terms.specs.declared.term.Term.{Term}
 use Rattle.terms.specs.TermList.{IsTermList}
@@ -20,7 +20,7 @@ get_last (x ∷ xs) y = get_last xs y
 pub contained_at : {X : Type 0} (xs : List X) (i : ℕ) (x : X) → slice_get xs i ≡ Some x → Contains xs x
 contained_at xs i x h = (i, slice_get_within xs i x h, get_or_from_slice_get xs i x x h)
 
-pub list_pushed : (ts : List Term) (t : Term) → IsTermList ts → length ts < 1048576 → All (λ a. a < length ts) t.args → (Contains ts t → ⊥) → IsTermList (ts ++ t ∷ [])
+pub list_pushed : (ts : List Term) (t : Term) → IsTermList ts → length ts + 1 < 2 ^ 32 → All (λ a. a < length ts) t.args → (Contains ts t → ⊥) → IsTermList (ts ++ t ∷ [])
 list_pushed ts t b room below new = record {
   few = omega (arith, length-append ts (t ∷ []));
   downward = λ i u h. elim (get_pushed ts t i u h) [ inl g ↦ b.downward i u g | inr g ↦ rw (g.0, g.1) below ];

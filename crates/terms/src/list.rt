@@ -5,8 +5,8 @@ use crate::term::Term;
 use std::alloc::{AllocError, Global};
 use std::marker::Model;
 
-/// The greatest number of terms that a list holds.
-pub const TERMS: usize = 1_048_576;
+/// Terms are numbered from 0 up to this.
+const LAST_NUMBER: usize = 4_294_967_295;
 
 /// A list of terms, each above its arguments, in which no term stands twice.
 #[derive(Debug, Drop)]
@@ -27,12 +27,6 @@ impl Model for TermList {
     ghost invariant = { λ b. IsTermList b.terms.items };
 }
 
-#[derive(Clone, Copy, Debug, PartialEq, Eq)]
-pub enum ListFault {
-    Full,
-    OutOfMemory,
-}
-
 impl TermList {
     ghost use Rattle.std.specs.Prelude.{◌≡◌, ℕ, ◌+◌, ◌^◌, ◌<◌, ◌≤◌, ◌++◌, ◌∷◌, [], length, IfOk, OnErr, All, Contains, slice_get, slice_index_or, OnOk, IfErr, MatchOption};
     ghost use Rattle.terms.specs.TermList.{IsTermList};
@@ -49,7 +43,7 @@ impl TermList {
 
     pub fn len(&self) -> usize
         ensures len { result ≡ length self.now }
-        ensures bound { length self.now ≤ 1_048_576 }
+        ensures bound { length self.now < 2 ^ 32 }
     {
         self.terms.len()
     }
@@ -69,37 +63,29 @@ impl TermList {
         &self.terms[id as usize]
     }
 
-    /// The number of a term, if the list has it.
-    pub fn find(&self, node: &Term) -> Option<u32>
-        ensures { MatchOption result (¬ Contains self.now node.now) (λ id. slice_get self.now id ≡ Some node.now) }
-    {
-        find_term(self.terms.as_slice(), node)
-    }
-
-    /// The number of the equal term, old or new.
-    #[tactic(auto, using(crate::proofs::Lists::list_pushed, crate::proofs::Lists::get_last))]
-    pub fn intern(&mut self, node: Term) -> Result<u32, ListFault>
+    /// The number of the equal term, old or new. A list whose numbers run out doesn't fit in memory, and is answered so.
+    #[tactic(auto, using(crate::proofs::Lists::list_pushed, crate::proofs::Lists::get_last, std::proofs::lemmas::Option::slice_get_within))]
+    pub fn intern(&mut self, node: Term) -> Result<u32, AllocError>
         requires { All (λ a. a < length self.old) node.args }
         ensures interned { IfOk result (λ id. Interns self.old node self.new id) }
         ensures within { IfOk result (λ id. id < length self.new) }
         ensures grows { length self.old ≤ length self.new }
-        ensures full { result ≡ Err ListFault.Full → ¬ Contains self.old node × (length self.old ≡ 1_048_576) }
         ensures err { OnErr result (self.new ≡ self.old) }
     {
         if let Some(id) = find_term(self.terms.as_slice(), &node) {
             return Ok(id);
         }
-        if self.terms.len() >= TERMS {
-            return Err(ListFault::Full);
+        if self.terms.len() >= LAST_NUMBER {
+            return Err(AllocError);
         }
         let id = self.terms.len() as u32;
-        append(&mut self.terms, node)?;
+        self.terms.push(node)?;
         Ok(id)
     }
 }
 
 fn find_term(terms: &[Term], node: &Term) -> Option<u32>
-    requires { length terms.now ≤ 1_048_576 }
+    requires { length terms.now < 2 ^ 32 }
     ensures { MatchOption result (¬ Contains terms.now node.now) (λ id. slice_get terms.now id ≡ Some node.now) }
 {
     for (i, term) in terms.iter().enumerate() {
@@ -108,15 +94,4 @@ fn find_term(terms: &[Term], node: &Term) -> Option<u32>
         }
     }
     None
-}
-
-fn append(terms: &mut Vec<Term>, node: Term) -> Result<(), ListFault>
-    ensures ok { OnOk result (terms.new.items ≡ terms.old.items ++ node ∷ []) }
-    ensures err { OnErr result (terms.new.items ≡ terms.old.items) }
-    ensures memory { IfErr result (λ e. e ≡ ListFault.OutOfMemory) }
-{
-    match terms.push(node) {
-        Ok(()) => Ok(()),
-        Err(_) => Err(ListFault::OutOfMemory),
-    }
 }

@@ -9,8 +9,9 @@ use Rattle.vcc_base.specs.Maps.{Map}
 use Rattle.c_syntax.specs.Tree.{Prog}
 use Rattle.c_syntax.specs.Reads.{Reads, IsFirstForm}
 use Rattle.cert_format.specs.Text.{IsCertText}
-use Rattle.vcc_cli.specs.Command.{IsCheck}
-use Rattle.vcc_cli.specs.Answer.{IsYes, IsAccepted, SourceIsSafe}
+use Rattle.std.proofs.Common.{inl, inr}
+use Rattle.vcc_cli.specs.declared.judge.Label.{Label}
+use Rattle.vcc_cli.specs.Answer.{FirstNot}
 use Rattle.vcc_cli.specs.Accepts.{FollowsBy, AllFollow, AllValid}
 
 pub drop_at : {X : Type 0} (xs : List X) (i : ℕ) (x : X) → i < length xs → x ≡ get_or xs i x → drop i xs ≡ x ∷ drop (i + 1) xs
@@ -26,16 +27,25 @@ none_left (x ∷ xs) (suc i) h = none_left xs i (omega arith)
 pub record Left {X : Type 0} (f : X → Check) (checks : List X) (blocks : List (List Step)) (i : ℕ) : Type 0 where
   pub follow : AllFollow (map f (drop i checks)) (drop i blocks) → AllFollow (map f checks) blocks
   pub valid : AllValid (map f (drop i checks)) → AllValid (map f checks)
+  pub first_not : (l : Label) → FirstNot (map f (drop i checks)) (drop i blocks) (i + 1) l → FirstNot (map f checks) blocks 1 l
 
 pub left_first : {X : Type 0} (f : X → Check) (checks : List X) (blocks : List (List Step)) → Left f checks blocks 0
-left_first f checks blocks = record { follow = λ h. h; valid = λ h. h }
+left_first f checks blocks = record { follow = λ h. h; valid = λ h. h; first_not = λ l h. h }
 
 pub left_more : {X : Type 0} (f : X → Check) (checks : List X) (blocks : List (List Step)) (i : ℕ) (x : X) (b : List Step) → i < length checks → i < length blocks → x ≡ get_or checks i x → b ≡ get_or blocks i b → FollowsBy (f x) b → IsValid (condition (f x)) → Left f checks blocks i → Left f checks blocks (i + 1)
 left_more f checks blocks i x b lx lb xs bs follows valid left = record {
   follow = λ h.
       left.follow (subst (λ (cs : List _). AllFollow (map f cs) (drop i blocks)) (sym (drop_at checks i x lx xs)) (subst (λ (ds : List (List Step)). AllFollow (map f (x ∷ drop (i + 1) checks)) ds) (sym (drop_at blocks i b lb bs)) (follows, h)));
   valid = λ h. left.valid (subst (λ (cs : List _). AllValid (map f cs)) (sym (drop_at checks i x lx xs)) (valid, h));
+  first_not = λ l h.
+      left.first_not l (subst (λ (cs : List _). FirstNot (map f cs) (drop i blocks) (i + 1) l) (sym (drop_at checks i x lx xs)) (subst (λ (ds : List (List Step)). FirstNot (map f (x ∷ drop (i + 1) checks)) ds (i + 1) l) (sym (drop_at blocks i b lb bs)) (inr (follows, h))));
 }
+
+-- where the next doesn't follow, it is the first
+pub left_stops : {X : Type 0} (f : X → Check) (checks : List X) (blocks : List (List Step)) (i : ℕ) (x : X) (b : List Step) (line : ℕ) → i < length checks → i < length blocks → x ≡ get_or checks i x → b ≡ get_or blocks i b → (FollowsBy (f x) b → ⊥) → line ≡ (f x).line → Left f checks blocks i → FirstNot (map f checks) blocks 1 (record { ordinal = i + 1; line = line })
+left_stops f checks blocks i x b line lx lb xs bs not lines left =
+    let l : Label = record { ordinal = i + 1; line = line } in
+    left.first_not l (subst (λ (cs : List _). FirstNot (map f cs) (drop i blocks) (i + 1) l) (sym (drop_at checks i x lx xs)) (subst (λ (ds : List (List Step)). FirstNot (map f (x ∷ drop (i + 1) checks)) ds (i + 1) l) (sym (drop_at blocks i b lb bs)) (inl (not, ap (λ (n : ℕ). record { ordinal = i + 1; line = n }) lines))))
 
 pub left_none : {X : Type 0} (f : X → Check) (checks : List X) (blocks : List (List Step)) (i : ℕ) → length checks ≤ i → length blocks ≤ i → Left f checks blocks i → AllFollow (map f checks) blocks × AllValid (map f checks)
 left_none f checks blocks i lx lb left = (
@@ -55,32 +65,3 @@ pub valid_at : (cs : List Check) → AllValid cs → (n : ℕ) (f : Formula) →
 valid_at [] h n f g = cc
 valid_at (c ∷ cs) h zero f g = let e : condition c ≡ f = cc in subst IsValid e h.0
 valid_at (c ∷ cs) h (suc n) f g = valid_at cs h.1 n f g
-
--- a yes, from what the steps of a check gave
-pub yes : ConditionsMeanSafe → (m : Map) (source_name cert_name source cert read judged : List ℕ) (p : Prog) → m source_name ≡ Some source → m cert_name ≡ Some cert → read ≡ source → judged ≡ cert → IsFirstForm read p → ((blocks : List (List Step)) × IsCertText judged blocks × AllFollow (checks_of_program p) blocks) → AllValid (checks_of_program p) → IsYes m source_name cert_name
-yes law m source_name cert_name source cert read judged p held stored same as' form (blocks, text, follow) valid =
-    let reads = subst (λ (x : List ℕ). Reads x p) same form.reads in
-    record {
-      source = source;
-      cert = cert;
-      source_held = held;
-      cert_held = stored;
-      accepts = record { program = p; blocks = blocks; reads = reads; text = subst (λ (x : List ℕ). IsCertText x blocks) as' text; follow = follow };
-      is_safe = record { program = p; reads = reads; safe = law p (valid_at (checks_of_program p) valid) };
-    }
-
-pub safe_answer : (m : Map) (words : List (List ℕ)) (source_name cert_name : List ℕ) → IsCheck words source_name cert_name → IsYes m source_name cert_name → SourceIsSafe m words
-safe_answer m words source_name cert_name command y = record {
-  source = y.source;
-  cert = y.cert;
-  check = record { source_name = source_name; cert_name = cert_name; command = command; source_held = y.source_held; cert_held = y.cert_held };
-  is_safe = y.is_safe;
-}
-
-pub accepted_answer : (m : Map) (words : List (List ℕ)) (source_name cert_name : List ℕ) → IsCheck words source_name cert_name → IsYes m source_name cert_name → IsAccepted m words
-accepted_answer m words source_name cert_name command y = record {
-  source = y.source;
-  cert = y.cert;
-  check = record { source_name = source_name; cert_name = cert_name; command = command; source_held = y.source_held; cert_held = y.cert_held };
-  accepts = y.accepts;
-}

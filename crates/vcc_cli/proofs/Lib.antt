@@ -1,1 +1,4 @@
 pub mod Judging
+pub mod Reading
+pub mod Printing
+pub mod Runs

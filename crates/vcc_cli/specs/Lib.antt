@@ -1,3 +1,7 @@
 pub mod Command
 pub mod Accepts
 pub mod Answer
+pub mod Verdicts
+pub mod Faults
+pub mod Lines
+pub mod Run

@@ -1,25 +1,23 @@
 //! The command `check`.
 
-ghost use Rattle.std.specs.Prelude.{◌≡◌, List, IfOk, Ok, Some};
+ghost use Rattle.std.specs.Prelude.{◌≡◌, ◌<◌, ◌≤◌, Ok, Err, Some, Result, MatchResult};
 ghost use Rattle.vcc_base.specs.Maps.{Map};
 ghost use Rattle.c_syntax.specs.Tree.{program as read_as};
-ghost use Rattle.c_syntax.specs.Reads.{IsFirstForm};
 ghost use Rattle.wp_gen.specs.Conditions.{checks_of_program};
-ghost use Rattle.cert_format.specs.declared.certificate.Step.{Step};
-ghost use Rattle.cert_format.specs.Text.{IsCertText};
-ghost use Rattle.vcc_cli.specs.Accepts.{Accepts, AllFollow, AllValid};
-ghost use Rattle.vcc_cli.specs.Answer.{IsYes};
+ghost use Rattle.vcc_cli.specs.Accepts.{AllValid};
+ghost use Rattle.vcc_cli.specs.Answer.{HoldsWithin, IsCertAnswer, IsCheckAnswer, IsSafeAnswer, IsUnread};
+ghost use Rattle.vcc_cli.specs.Faults.{IsReadFault};
 
-use crate::judge::{Verdict, judge};
+use crate::judge::{Verdict, judge_blocks};
 use crate::refusal::Refusal;
 use c_reader::read_source;
+use c_syntax::fault::SourceFault;
 use c_syntax::tree::Program;
-use cert_format::decode::decode;
+use cert_format::decode::{CertFault, decode};
 use std::alloc::Global;
 use vcc_base::limit::Limit;
 use vcc_base::store::Store;
 use vcc_base::whole::{ReadFault, read_whole};
-use wp_gen::condition::checks;
 use wp_gen::law::conditions_mean_safe;
 
 /// All bytes of the name.
@@ -29,7 +27,9 @@ fn read<'a, S: Store>(
     name: &'a str,
     limit: Limit,
 ) -> Result<Vec<u8>, Refusal<'a>>
-    ensures bytes { (m : Map) → S.contents store.old ≡ Some m → IfOk result (λ v. m name.entry.now ≡ Some v.items) }
+    ensures bytes { (m : Map) → S.contents store.old ≡ Some m → MatchResult result (λ v. HoldsWithin m name.entry.now limit v.items) (IsUnread m name.entry.now limit) }
+    ensures fault { IsReadFault result → S.read_faults store.old < S.read_faults store.new }
+    ensures never_falls { S.read_faults store.old ≤ S.read_faults store.new }
     ensures kept { S.contents store.new ≡ S.contents store.old }
 {
     match read_whole(alloc, store, name, limit) {
@@ -41,15 +41,31 @@ fn read<'a, S: Store>(
     }
 }
 
-/// The verdict of a certificate's text over a program.
-fn judge_text<'a>(alloc: Global, program: &Program, cert: &[u8]) -> Result<Verdict, Refusal<'a>>
-    ensures follow { result ≡ Ok Verdict.Yes → (blocks : List (List Step)) × IsCertText cert.now blocks × AllFollow (checks_of_program (read_as program.now)) blocks }
+/// The verdict of the certificate with this name over a program.
+fn judge_name<'a, S: Store>(
+    alloc: Global,
+    store: &mut S,
+    program: &Program,
+    name: &'a str,
+) -> Result<Verdict, Refusal<'a>>
+    ensures answer { (m : Map) → S.contents store.old ≡ Some m → IsCertAnswer m name.entry.now (checks_of_program (read_as program.now)) result }
     ensures valid { result ≡ Ok Verdict.Yes → AllValid (checks_of_program (read_as program.now)) }
+    ensures fault { IsReadFault result → S.read_faults store.old < S.read_faults store.new }
+    ensures never_falls { S.read_faults store.old ≤ S.read_faults store.new }
+    ensures kept { S.contents store.new ≡ S.contents store.old }
 {
-    let checks = checks(alloc, program)?;
-    let certificate = decode(alloc, cert)?;
-    let verdict = judge(alloc, &checks, &certificate.blocks)?;
-    Ok(verdict)
+    let bytes = match read(alloc, store, name, Limit::CertBytes) {
+        Ok(bytes) => bytes,
+        Err(refusal) => return Err(refusal),
+    };
+    match decode(alloc, &bytes) {
+        Ok(certificate) => {
+            let answer = judge_blocks(alloc, program, &certificate.blocks);
+            answer
+        }
+        Err(CertFault::Refused) => Err(Refusal::Refused),
+        Err(CertFault::OutOfMemory) => Err(Refusal::OutOfMemory),
+    }
 }
 
 /// The verdict of the certificate with this name over the source with that name.
@@ -59,13 +75,23 @@ pub fn check<'a, S: Store>(
     source: &'a str,
     cert: &'a str,
 ) -> Result<Verdict, Refusal<'a>>
-    ensures yes { (m : Map) → S.contents store.old ≡ Some m → result ≡ Ok Verdict.Yes → IsYes m source.entry.now cert.entry.now }
+    ensures answer { (m : Map) → S.contents store.old ≡ Some m → IsCheckAnswer m source.entry.now cert.entry.now result }
+    ensures safe { (m : Map) → S.contents store.old ≡ Some m → result ≡ Ok Verdict.Yes → IsSafeAnswer m source.entry.now }
+    ensures fault { IsReadFault result → S.read_faults store.old < S.read_faults store.new }
+    ensures never_falls { S.read_faults store.old ≤ S.read_faults store.new }
     ensures kept { S.contents store.new ≡ S.contents store.old }
 {
     conditions_mean_safe();
-    let source = read(alloc, store, source, Limit::SourceBytes)?;
-    let program = read_source(alloc, &source)?;
-    let cert = read(alloc, store, cert, Limit::CertBytes)?;
-    let verdict = judge_text(alloc, &program, &cert)?;
-    Ok(verdict)
+    let bytes = match read(alloc, store, source, Limit::SourceBytes) {
+        Ok(bytes) => bytes,
+        Err(refusal) => return Err(refusal),
+    };
+    match read_source(alloc, &bytes) {
+        Ok(program) => {
+            let answer = judge_name(alloc, store, &program, cert);
+            answer
+        }
+        Err(SourceFault::NotBuilt) => Err(Refusal::NotBuilt),
+        Err(SourceFault::OutOfMemory) => Err(Refusal::OutOfMemory),
+    }
 }

@@ -1,19 +1,20 @@
 //! Judging a program by a certificate.
 
-ghost use Rattle.std.specs.Prelude.{◌≡◌, ◌↔◌, ℕ, ◌<◌, List, [], IsTrue, IfOk, Ok, map, drop};
+ghost use Rattle.std.specs.Prelude.{◌≡◌, ◌↔◌, ℕ, length, IsTrue, IfOk, Ok, map};
+ghost use Rattle.c_syntax.specs.Tree.{program as read_as};
 ghost use Rattle.wp_gen.specs.Facts.{check_of};
-ghost use Rattle.terms.specs.declared.term.Term.{Term};
-ghost use Rattle.terms.specs.Formula.{Numbered};
 ghost use Rattle.wp_gen.specs.Conditions as conditions;
 ghost use Rattle.wp_gen.specs.Law.{IsValid};
 ghost use Rattle.vcc_cli.specs.Accepts.{AllFollow, AllValid, FollowsBy};
+ghost use Rattle.vcc_cli.specs.Answer.{AreJudged, FirstNot};
+ghost use Rattle.vcc_cli.specs.Verdicts.{IsVerdict};
 
 use crate::refusal::Refusal;
+use c_syntax::tree::Program;
 use cert_format::certificate::Refutation;
 use refutation_check::check_one;
-use std::alloc::Global;
-use wp_gen::condition::condition_of;
-use wp_gen::fault::GenFault;
+use std::alloc::{AllocError, Global};
+use wp_gen::condition::{checks, condition_of};
 use wp_gen::walk::Check;
 
 /// The label of a check of main: its number among the checks, from 1, and its line.
@@ -32,8 +33,8 @@ pub enum Verdict {
 }
 
 /// Whether the condition of a check follows by its block.
-fn follows(alloc: Global, check: &Check<'_>, block: &Refutation) -> Result<bool, GenFault>
-    ensures follows { IfOk result (λ yes. IsTrue yes → FollowsBy (check_of check.now) block.now) }
+fn follows(alloc: Global, check: &Check<'_>, block: &Refutation) -> Result<bool, AllocError>
+    ensures follows { IfOk result (λ yes. IsTrue yes ↔ FollowsBy (check_of check.now) block.now) }
     ensures valid { IfOk result (λ yes. IsTrue yes → IsValid (conditions.condition (check_of check.now))) }
 {
     let condition = condition_of(alloc, check)?;
@@ -43,19 +44,14 @@ fn follows(alloc: Global, check: &Check<'_>, block: &Refutation) -> Result<bool,
 }
 
 /// Whether each condition follows by its block, in order.
-pub fn judge<'a>(
-    alloc: Global,
-    checks: &[Check<'_>],
-    blocks: &[Refutation],
-) -> Result<Verdict, Refusal<'a>>
-    ensures follow { result ≡ Ok Verdict.Yes → AllFollow (map check_of checks.now) blocks.now }
+fn judge(alloc: Global, checks: &[Check<'_>], blocks: &[Refutation]) -> Result<Verdict, AllocError>
+    requires { length checks.now ≡ length blocks.now }
+    ensures verdict { IfOk result (IsVerdict (map check_of checks.now) blocks.now) }
     ensures valid { result ≡ Ok Verdict.Yes → AllValid (map check_of checks.now) }
 {
-    if checks.len() != blocks.len() {
-        return Err(Refusal::Refused);
-    }
     for i in 0..checks.len() {
-        if !follows(alloc, &checks[i], &blocks[i])? {
+        let yes = follows(alloc, &checks[i], &blocks[i])?;
+        if !yes {
             return Ok(Verdict::No(Label {
                 ordinal: i + 1,
                 line: checks[i].line,
@@ -63,4 +59,25 @@ pub fn judge<'a>(
         }
     }
     Ok(Verdict::Yes)
+}
+
+/// The verdict of a certificate's blocks over a program, one block for each check.
+pub fn judge_blocks<'a>(
+    alloc: Global,
+    program: &Program,
+    blocks: &[Refutation],
+) -> Result<Verdict, Refusal<'a>>
+    ensures judged { AreJudged (conditions.checks_of_program (read_as program.now)) blocks.now result }
+    ensures valid { result ≡ Ok Verdict.Yes → AllValid (conditions.checks_of_program (read_as program.now)) }
+{
+    let Ok(checks) = checks(alloc, program) else {
+        return Err(Refusal::OutOfMemory);
+    };
+    if checks.len() != blocks.len() {
+        return Err(Refusal::Refused);
+    }
+    match judge(alloc, &checks, blocks) {
+        Ok(verdict) => Ok(verdict),
+        Err(_) => Err(Refusal::OutOfMemory),
+    }
 }

@@ -9,6 +9,3 @@ pub mod refusal;
 pub mod report;
 
 pub use main_call::vcc_main;
-
-#[cfg(test)]
-mod tests;

@@ -1,15 +1,20 @@
 //! The top call.
 
-ghost use Rattle.std.specs.Prelude.{◌≡◌, Some};
+ghost use Rattle.std.specs.Prelude.{◌≡◌, ◌⊎◌, ◌≤◌, List, ℕ, length, Some};
+ghost use Rattle.c_syntax.specs.Reads.{IsFirstForm};
 ghost use Rattle.vcc_base.specs.Maps.{Map};
+ghost use Rattle.vcc_base.specs.Limits.{number_of};
 ghost use Rattle.vcc_cli.specs.Command.{texts};
-ghost use Rattle.vcc_cli.specs.Answer.{IsAccepted, SourceIsSafe};
+ghost use Rattle.vcc_cli.specs.Accepts.{Accepts};
+ghost use Rattle.vcc_cli.specs.Answer.{IsAccepted, IsCheckOf, SourceIsSafe};
+ghost use Rattle.vcc_cli.specs.Run.{IsRun};
 
 use crate::check::check;
 use crate::command::check_command;
 use crate::refusal::Refusal;
 use crate::report::report;
 use std::alloc::Global;
+use vcc_base::limit::Limit;
 use vcc_base::sink::Sink;
 use vcc_base::store::Store;
 
@@ -25,6 +30,10 @@ pub fn vcc_main<S: Store, O: Sink>(
     ensures safe { (m : Map) → S.contents store.old ≡ Some m → result ≡ 0 → SourceIsSafe m (texts words.now) }
     // Yes only on acceptance.
     ensures accepted { (m : Map) → S.contents store.old ≡ Some m → result ≡ 0 → IsAccepted m (texts words.now) }
+    // Acceptance gets yes, or out of memory: where no read or write failed, and the bytes are no more than the limits allow.
+    ensures complete { (m : Map) → S.contents store.old ≡ Some m → (source cert : List ℕ) (accepts : Accepts source cert) → IsCheckOf m (texts words.now) source cert → IsFirstForm source accepts.program → length cert ≤ number_of Limit.CertBytes → S.read_faults store.new ≤ S.read_faults store.old → O.faults out.new ≤ O.faults out.old → (result ≡ 0) ⊎ (result ≡ 8) }
+    // Each answer, its line and its status are those of the words; a read or a write fault only where one happened.
+    ensures exact { (m : Map) → S.contents store.old ≡ Some m → IsRun m (texts words.now) (record { reads_before = S.read_faults store.old; reads_after = S.read_faults store.new }) (record { faults_before = O.faults out.old; faults_after = O.faults out.new; before = O.written out.old; after = O.written out.new }) result }
     ensures kept { S.contents store.new ≡ S.contents store.old }
 {
     match check_command(words) {
@@ -33,6 +42,9 @@ pub fn vcc_main<S: Store, O: Sink>(
             let status = report(out, answer);
             status
         }
-        None => report(out, Err(Refusal::Usage)),
+        None => {
+            let status = report(out, Err(Refusal::Usage));
+            status
+        }
     }
 }

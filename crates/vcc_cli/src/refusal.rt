@@ -1,10 +1,6 @@
-//! Why a check gives no verdict.
+//! Why a command gives no verdict.
 
-use c_syntax::fault::SourceFault;
-use cert_format::decode::CertFault;
-use std::alloc::AllocError;
 use vcc_base::limit::Limit;
-use wp_gen::fault::GenFault;
 
 /// Why a command gives no verdict.
 #[derive(Clone, Copy)]
@@ -15,35 +11,9 @@ pub enum Refusal<'a> {
     NotBuilt,
     /// The certificate isn't well formed, or has another number of blocks than there are conditions.
     Refused,
+    /// More bytes than this limit allows.
     Limit(Limit),
     Missing(&'a str),
     ReadFault(&'a str),
     OutOfMemory,
-}
-
-impl<'a> From<SourceFault> for Refusal<'a> {
-    fn from(fault: SourceFault) -> Refusal<'a> {
-        match fault {
-            SourceFault::NotBuilt => Refusal::NotBuilt,
-            SourceFault::OutOfMemory => Refusal::OutOfMemory,
-        }
-    }
-}
-
-impl<'a> From<CertFault> for Refusal<'a> {
-    fn from(fault: CertFault) -> Refusal<'a> {
-        match fault {
-            CertFault::Refused => Refusal::Refused,
-            CertFault::OutOfMemory => Refusal::OutOfMemory,
-        }
-    }
-}
-
-impl<'a> From<GenFault> for Refusal<'a> {
-    fn from(fault: GenFault) -> Refusal<'a> {
-        match fault {
-            GenFault::TermLimit => Refusal::Limit(Limit::Terms),
-            GenFault::OutOfMemory => Refusal::OutOfMemory,
-        }
-    }
 }

@@ -1,6 +1,9 @@
 //! What the program prints, and its status.
 
-ghost use Rattle.std.specs.Prelude.{◌≡◌, ◌≤◌, Ok};
+ghost use Rattle.std.specs.Prelude.{◌≡◌, ◌<◌, ◌≤◌, ◌++◌, OnOk, IsErrOf, codes, decimal};
+ghost use Rattle.vcc_base.specs.Maps.{NowWritten};
+ghost use Rattle.vcc_base.specs.Limits.{number_of, name_of};
+ghost use Rattle.vcc_cli.specs.Lines.{IsReported, line, line_of, status_of};
 
 use crate::judge::{Label, Verdict};
 use crate::refusal::Refusal;
@@ -8,55 +11,76 @@ use vcc_base::limit::Limit;
 use vcc_base::sink::{Sink, SinkFault};
 use vcc_base::whole::{put_all, put_number};
 
+/// A natural number in decimal.
+fn put_natural<O: Sink>(out: &mut O, number: u64) -> Result<(), SinkFault>
+    ensures ok { OnOk result (NowWritten (O.written out.old) (O.written out.new) (decimal number)) }
+    ensures failed { IsErrOf result SinkFault.Failed → O.faults out.old < O.faults out.new }
+    ensures never_falls { O.faults out.old ≤ O.faults out.new }
+{
+    put_number(out, i128::from(number))
+}
+
 /// The line of a check that doesn't follow.
-fn put_no<O: Sink>(out: &mut O, label: Label) -> Result<(), SinkFault> {
+fn put_no<O: Sink>(out: &mut O, label: Label) -> Result<(), SinkFault>
+    ensures ok { OnOk result (NowWritten (O.written out.old) (O.written out.new) (codes "no: main/" ++ (decimal label.ordinal ++ (codes " Assert line " ++ line (decimal label.line))))) }
+    ensures failed { IsErrOf result SinkFault.Failed → O.faults out.old < O.faults out.new }
+    ensures never_falls { O.faults out.old ≤ O.faults out.new }
+{
     put_all(out, b"no: main/")?;
-    put_number(out, label.ordinal as i128)?;
+    put_natural(out, label.ordinal as u64)?;
     put_all(out, b" Assert line ")?;
-    put_number(out, i128::from(label.line))?;
-    put_all(out, b"\n")
+    put_natural(out, u64::from(label.line))?;
+    put_all(out, b"\n")?;
+    Ok(())
 }
 
 /// A line of a word and a name.
-fn put_named<O: Sink>(out: &mut O, word: &[u8], name: &str) -> Result<(), SinkFault> {
+fn put_named<O: Sink>(out: &mut O, word: &[u8], name: &str) -> Result<(), SinkFault>
+    ensures ok { OnOk result (NowWritten (O.written out.old) (O.written out.new) (word.now ++ line name.now)) }
+    ensures failed { IsErrOf result SinkFault.Failed → O.faults out.old < O.faults out.new }
+    ensures never_falls { O.faults out.old ≤ O.faults out.new }
+{
     put_all(out, word)?;
     put_all(out, name.as_bytes())?;
-    put_all(out, b"\n")
+    put_all(out, b"\n")?;
+    Ok(())
 }
 
-fn put_limit<O: Sink>(out: &mut O, limit: Limit) -> Result<(), SinkFault> {
+/// The line of a limit.
+fn put_limit<O: Sink>(out: &mut O, limit: Limit) -> Result<(), SinkFault>
+    ensures ok { OnOk result (NowWritten (O.written out.old) (O.written out.new) (codes "limit: " ++ (name_of limit ++ (codes " " ++ line (decimal (number_of limit)))))) }
+    ensures failed { IsErrOf result SinkFault.Failed → O.faults out.old < O.faults out.new }
+    ensures never_falls { O.faults out.old ≤ O.faults out.new }
+{
     put_all(out, b"limit: ")?;
     put_all(out, limit.name().as_bytes())?;
     put_all(out, b" ")?;
-    put_number(out, i128::from(limit.number()))?;
-    put_all(out, b"\n")
-}
-
-fn put_refusal<O: Sink>(out: &mut O, refusal: Refusal<'_>) -> Result<(), SinkFault> {
-    match refusal {
-        Refusal::Usage => put_all(out, b"usage: vcc check SOURCE CERT\n"),
-        Refusal::NotBuilt => put_all(out, b"source: not built\n"),
-        Refusal::Refused => put_all(out, b"certificate: refused\n"),
-        Refusal::Limit(limit) => put_limit(out, limit),
-        Refusal::Missing(name) => put_named(out, b"missing: ", name),
-        Refusal::ReadFault(name) => put_named(out, b"read fault: ", name),
-        Refusal::OutOfMemory => put_all(out, b"out of memory\n"),
-    }
+    put_natural(out, limit.number())?;
+    put_all(out, b"\n")?;
+    Ok(())
 }
 
 /// Prints the line of an answer.
-fn put_answer<O: Sink>(out: &mut O, answer: Result<Verdict, Refusal<'_>>) -> Result<(), SinkFault> {
+fn put_answer<O: Sink>(out: &mut O, answer: Result<Verdict, Refusal<'_>>) -> Result<(), SinkFault>
+    ensures ok { OnOk result (NowWritten (O.written out.old) (O.written out.new) (line_of answer.entry)) }
+    ensures failed { IsErrOf result SinkFault.Failed → O.faults out.old < O.faults out.new }
+{
     match answer {
         Ok(Verdict::Yes) => put_all(out, b"yes\n"),
         Ok(Verdict::No(label)) => put_no(out, label),
-        Err(refusal) => put_refusal(out, refusal),
+        Err(Refusal::Usage) => put_all(out, b"usage: vcc check SOURCE CERT\n"),
+        Err(Refusal::NotBuilt) => put_all(out, b"source: not built\n"),
+        Err(Refusal::Refused) => put_all(out, b"certificate: refused\n"),
+        Err(Refusal::Limit(limit)) => put_limit(out, limit),
+        Err(Refusal::Missing(name)) => put_named(out, b"missing: ", name),
+        Err(Refusal::ReadFault(name)) => put_named(out, b"read fault: ", name),
+        Err(Refusal::OutOfMemory) => put_all(out, b"out of memory\n"),
     }
 }
 
 /// The status that goes with an answer's line.
 fn status(answer: Result<Verdict, Refusal<'_>>) -> u8
-    ensures yes { result ≡ 0 → answer.entry ≡ Ok Verdict.Yes }
-    ensures small { result ≤ 8 }
+    ensures { result ≡ status_of answer.entry }
 {
     match answer {
         Ok(Verdict::Yes) => 0,
@@ -65,15 +89,15 @@ fn status(answer: Result<Verdict, Refusal<'_>>) -> u8
         Err(Refusal::NotBuilt) => 3,
         Err(Refusal::Refused) => 4,
         Err(Refusal::Limit(_)) => 5,
-        Err(Refusal::Missing(_) | Refusal::ReadFault(_)) => 6,
+        Err(Refusal::Missing(_)) => 6,
+        Err(Refusal::ReadFault(_)) => 6,
         Err(Refusal::OutOfMemory) => 8,
     }
 }
 
-/// Prints the line of an answer, and gives its status; a write fault replaces it.
+/// Prints the line of an answer, and gives its status; a write fault or want of memory replaces it.
 pub fn report<O: Sink>(out: &mut O, answer: Result<Verdict, Refusal<'_>>) -> u8
-    ensures yes { result ≡ 0 → answer.entry ≡ Ok Verdict.Yes }
-    ensures small { result ≤ 8 }
+    ensures reported { IsReported answer.entry (record { faults_before = O.faults out.old; faults_after = O.faults out.new; before = O.written out.old; after = O.written out.new }) result }
 {
     match put_answer(out, answer) {
         Ok(()) => status(answer),

@@ -7,11 +7,10 @@ ghost use Rattle.wp_gen.specs.Translation as spec;
 ghost use Rattle.wp_gen.specs.Conditions as conditions;
 ghost use Rattle.wp_gen.specs.Facts.{formula_of, check_of};
 
-use crate::fault::GenFault;
 use crate::number::{good_entry, intern, joined, test};
 use crate::walk::{Check, Fact, walk};
 use c_syntax::tree::{Clause, Program};
-use std::alloc::Global;
+use std::alloc::{AllocError, Global};
 use terms::list::TermList;
 use terms::term::Kind;
 
@@ -23,7 +22,7 @@ pub struct Condition {
 }
 
 /// The checks of a program, in the order of the text.
-pub fn checks(alloc: Global, program: &Program) -> Result<Vec<Check<'_>>, GenFault>
+pub fn checks(alloc: Global, program: &Program) -> Result<Vec<Check<'_>>, AllocError>
     ensures checks { IfOk result (λ v. map check_of v.items ≡ conditions.checks_of_program (read_as program.now)) }
 {
     let mut facts = entry_facts(alloc, program)?;
@@ -33,12 +32,12 @@ pub fn checks(alloc: Global, program: &Program) -> Result<Vec<Check<'_>>, GenFau
 }
 
 /// What holds at entry, but for the good heap.
-fn entry_facts(alloc: Global, program: &Program) -> Result<Vec<Fact<'_>>, GenFault>
+fn entry_facts(alloc: Global, program: &Program) -> Result<Vec<Fact<'_>>, AllocError>
     ensures facts { IfOk result (λ v. map formula_of v.items ≡ conditions.entry_facts (read_as program.now)) }
 {
-    // More parameters than this have more terms than a condition may.
+    // The terms of more parameters than this don't fit in memory.
     let Ok(count) = u32::try_from(program.parameters.len()) else {
-        return Err(GenFault::TermLimit);
+        return Err(AllocError);
     };
     let mut facts = Vec::new(alloc);
     push_ranges(&mut facts, count)?;
@@ -47,7 +46,7 @@ fn entry_facts(alloc: Global, program: &Program) -> Result<Vec<Fact<'_>>, GenFau
 }
 
 /// The ranges of the parameters.
-fn push_ranges(facts: &mut Vec<Fact<'_>>, count: u32) -> Result<(), GenFault>
+fn push_ranges(facts: &mut Vec<Fact<'_>>, count: u32) -> Result<(), AllocError>
     ensures facts { OnOk result (map formula_of facts.new.items ≡ map formula_of facts.old.items ++ spec.ranges 0 count) }
 {
     for i in 0..count {
@@ -58,7 +57,7 @@ fn push_ranges(facts: &mut Vec<Fact<'_>>, count: u32) -> Result<(), GenFault>
 }
 
 /// The requires clauses.
-fn push_clauses<'a>(facts: &mut Vec<Fact<'a>>, clauses: &'a [Clause]) -> Result<(), GenFault>
+fn push_clauses<'a>(facts: &mut Vec<Fact<'a>>, clauses: &'a [Clause]) -> Result<(), AllocError>
     ensures facts { OnOk result (map formula_of facts.new.items ≡ map formula_of facts.old.items ++ map (λ c. spec.test c.test) (map clause clauses.now)) }
 {
     for clause in clauses {
@@ -69,7 +68,7 @@ fn push_clauses<'a>(facts: &mut Vec<Fact<'a>>, clauses: &'a [Clause]) -> Result<
 
 /// The terms of the condition that a check gives.
 #[tactic(auto, using(crate::proofs::Joining::numbered_condition))]
-pub fn condition_of(alloc: Global, check: &Check<'_>) -> Result<Condition, GenFault>
+pub fn condition_of(alloc: Global, check: &Check<'_>) -> Result<Condition, AllocError>
     ensures numbered { IfOk result (λ x. Numbered (conditions.condition (check_of check.now)) [] x.terms x.root) }
     ensures within { IfOk result (λ x. x.root < length x.terms) }
 {

@@ -2,7 +2,6 @@
 #![tactic(auto)]
 
 pub mod condition;
-pub mod fault;
 pub mod law;
 mod number;
 pub mod walk;

@@ -7,11 +7,10 @@ ghost use Rattle.c_syntax.specs.Tree.{bool_exp, stm, stms};
 ghost use Rattle.wp_gen.specs.Translation as spec;
 ghost use Rattle.wp_gen.specs.Facts.{formula_of, Folds, Joins};
 
-use crate::fault::GenFault;
 use crate::walk::Fact;
 use c_syntax::tree::{Comparison, Operand, Stmt, Test};
-use std::alloc::Global;
-use terms::list::{ListFault, TermList};
+use std::alloc::{AllocError, Global};
+use terms::list::TermList;
 use terms::term::{Args, Kind, Term};
 
 /// The range of `int`, which has 32 bits.
@@ -26,24 +25,18 @@ pub fn intern(
     kind: Kind,
     index: i128,
     args: &[u32],
-) -> Result<u32, GenFault>
+) -> Result<u32, AllocError>
     requires { All (λ a. a < length terms.old) args.now }
     ensures interned { IfOk result (λ id. Interns terms.old (term kind index args.now) terms.new id) }
     ensures within { IfOk result (λ id. id < length terms.new) }
     ensures grows { length terms.old ≤ length terms.new }
 {
-    let Ok(args) = Args::new(alloc, args) else {
-        return Err(GenFault::OutOfMemory);
-    };
-    match terms.intern(Term { kind, index, args }) {
-        Ok(id) => Ok(id),
-        Err(ListFault::Full) => Err(GenFault::TermLimit),
-        Err(ListFault::OutOfMemory) => Err(GenFault::OutOfMemory),
-    }
+    let args = Args::new(alloc, args)?;
+    terms.intern(Term { kind, index, args })
 }
 
 #[tactic(auto, using(terms::proofs::Numbering::numbered_leaf, terms::proofs::Numbering::numbered_unary, terms::proofs::Numbering::numbered_binary))]
-fn constant(alloc: Global, terms: &mut TermList, kind: Kind, index: i128) -> Result<u32, GenFault>
+fn constant(alloc: Global, terms: &mut TermList, kind: Kind, index: i128) -> Result<u32, AllocError>
     ensures numbered { IfOk result (λ id. Numbered (leaf kind index) terms.old terms.new id) }
     ensures within { IfOk result (λ id. id < length terms.new) }
     ensures grows { length terms.old ≤ length terms.new }
@@ -59,7 +52,7 @@ fn wide(n: u32) -> i128
     i128::from(n)
 }
 
-fn operand(alloc: Global, terms: &mut TermList, operand: Operand) -> Result<u32, GenFault>
+fn operand(alloc: Global, terms: &mut TermList, operand: Operand) -> Result<u32, AllocError>
     ensures numbered { IfOk result (λ id. Numbered (spec.operand operand) terms.old terms.new id) }
     ensures within { IfOk result (λ id. id < length terms.new) }
     ensures grows { length terms.old ≤ length terms.new }
@@ -84,7 +77,7 @@ fn comparison(
     comparison: Comparison,
     left: Operand,
     right: Operand,
-) -> Result<u32, GenFault>
+) -> Result<u32, AllocError>
     ensures numbered { IfOk result (λ id. Numbered (spec.comparison comparison (spec.operand left) (spec.operand right)) terms.old terms.new id) }
     ensures within { IfOk result (λ id. id < length terms.new) }
     ensures grows { length terms.old ≤ length terms.new }
@@ -103,7 +96,7 @@ fn comparison(
 
 /// A test.
 #[tactic(auto, using(terms::proofs::Numbering::numbered_leaf, terms::proofs::Numbering::numbered_unary, terms::proofs::Numbering::numbered_binary))]
-pub fn test(alloc: Global, terms: &mut TermList, t: &Test) -> Result<u32, GenFault>
+pub fn test(alloc: Global, terms: &mut TermList, t: &Test) -> Result<u32, AllocError>
     ensures numbered { IfOk result (λ id. Numbered (spec.test (bool_exp t.now)) terms.old terms.new id) }
     ensures within { IfOk result (λ id. id < length terms.new) }
     ensures grows { length terms.old ≤ length terms.new }
@@ -138,7 +131,7 @@ pub fn test(alloc: Global, terms: &mut TermList, t: &Test) -> Result<u32, GenFau
 }
 
 #[tactic(auto, using(terms::proofs::Numbering::numbered_unary))]
-fn negated_test(alloc: Global, terms: &mut TermList, t: &Test) -> Result<u32, GenFault>
+fn negated_test(alloc: Global, terms: &mut TermList, t: &Test) -> Result<u32, AllocError>
     ensures numbered { IfOk result (λ id. Numbered (spec.negation (spec.test (bool_exp t.now))) terms.old terms.new id) }
     ensures within { IfOk result (λ id. id < length terms.new) }
     ensures grows { length terms.old ≤ length terms.new }
@@ -149,7 +142,7 @@ fn negated_test(alloc: Global, terms: &mut TermList, t: &Test) -> Result<u32, Ge
 }
 
 /// The conjunction of terms, which groups to the right.
-fn conjunction(alloc: Global, terms: &mut TermList, ids: &[u32]) -> Result<u32, GenFault>
+fn conjunction(alloc: Global, terms: &mut TermList, ids: &[u32]) -> Result<u32, AllocError>
     requires some { 0 < length ids.now }
     requires within { All (λ a. a < length terms.old) ids.now }
     ensures folds { IfOk result (λ id. Folds ids.now terms.old terms.new id) }
@@ -167,7 +160,7 @@ fn conjunction(alloc: Global, terms: &mut TermList, ids: &[u32]) -> Result<u32, 
 
 /// What holds behind a statement.
 #[cycle(behind)]
-fn behind(alloc: Global, terms: &mut TermList, stmt: &Stmt) -> Result<u32, GenFault>
+fn behind(alloc: Global, terms: &mut TermList, stmt: &Stmt) -> Result<u32, AllocError>
     ensures numbered { IfOk result (λ id. Numbered (spec.fact_behind (stm stmt.now)) terms.old terms.new id) }
     ensures within { IfOk result (λ id. id < length terms.new) }
     ensures grows { length terms.old ≤ length terms.new }
@@ -190,35 +183,30 @@ fn behind(alloc: Global, terms: &mut TermList, stmt: &Stmt) -> Result<u32, GenFa
 
 /// What holds behind a branch whose test has this number.
 #[cycle(behind)]
-fn branch(alloc: Global, terms: &mut TermList, first: u32, stmts: &[Stmt]) -> Result<u32, GenFault>
+fn branch(
+    alloc: Global,
+    terms: &mut TermList,
+    first: u32,
+    stmts: &[Stmt],
+) -> Result<u32, AllocError>
     requires { first < length terms.old }
     ensures joins { IfOk result (λ id. Joins (spec.facts_behind (stms stmts.now)) first terms.old terms.new id) }
     ensures within { IfOk result (λ id. id < length terms.new) }
     ensures grows { length terms.old ≤ length terms.new }
 {
     let mut ids = Vec::new(alloc);
-    push(&mut ids, first)?;
+    ids.push(first)?;
     for stmt in stmts {
         let id = behind(alloc, terms, stmt)?;
-        push(&mut ids, id)?;
+        ids.push(id)?;
     }
     let id = conjunction(alloc, terms, &ids)?;
     Ok(id)
 }
 
-fn push(ids: &mut Vec<u32>, id: u32) -> Result<(), GenFault>
-    ensures ok { OnOk result (ids.new.items ≡ ids.old.items ++ id ∷ []) }
-    ensures err { OnErr result (ids.new.items ≡ ids.old.items) }
-{
-    match ids.push(id) {
-        Ok(()) => Ok(()),
-        Err(_) => Err(GenFault::OutOfMemory),
-    }
-}
-
 /// The heap at entry is good.
 #[tactic(auto, using(terms::proofs::Numbering::numbered_unary))]
-pub fn good_entry(alloc: Global, terms: &mut TermList) -> Result<u32, GenFault>
+pub fn good_entry(alloc: Global, terms: &mut TermList) -> Result<u32, AllocError>
     ensures numbered { IfOk result (λ id. Numbered spec.good_entry terms.old terms.new id) }
     ensures within { IfOk result (λ id. id < length terms.new) }
     ensures grows { length terms.old ≤ length terms.new }
@@ -230,7 +218,7 @@ pub fn good_entry(alloc: Global, terms: &mut TermList) -> Result<u32, GenFault>
 
 /// A fact.
 #[tactic(auto, using(terms::proofs::Numbering::numbered_binary))]
-fn fact(alloc: Global, terms: &mut TermList, fact: Fact<'_>) -> Result<u32, GenFault>
+fn fact(alloc: Global, terms: &mut TermList, fact: Fact<'_>) -> Result<u32, AllocError>
     ensures numbered { IfOk result (λ id. Numbered (formula_of fact.entry) terms.old terms.new id) }
     ensures within { IfOk result (λ id. id < length terms.new) }
     ensures grows { length terms.old ≤ length terms.new }
@@ -269,17 +257,17 @@ pub fn joined(
     terms: &mut TermList,
     first: u32,
     facts: &[Fact<'_>],
-) -> Result<u32, GenFault>
+) -> Result<u32, AllocError>
     requires { first < length terms.old }
     ensures joins { IfOk result (λ id. Joins (map formula_of facts.now) first terms.old terms.new id) }
     ensures within { IfOk result (λ id. id < length terms.new) }
     ensures grows { length terms.old ≤ length terms.new }
 {
     let mut ids = Vec::new(alloc);
-    push(&mut ids, first)?;
+    ids.push(first)?;
     for x in facts {
         let id = fact(alloc, terms, *x)?;
-        push(&mut ids, id)?;
+        ids.push(id)?;
     }
     let id = conjunction(alloc, terms, &ids)?;
     Ok(id)

@@ -6,9 +6,8 @@ ghost use Rattle.wp_gen.specs.Translation as spec;
 ghost use Rattle.wp_gen.specs.Conditions as conditions;
 ghost use Rattle.wp_gen.specs.Facts.{formula_of, check_of};
 
-use crate::fault::GenFault;
 use c_syntax::tree::{Program, Stmt, Test};
-use std::alloc::Global;
+use std::alloc::{AllocError, Global};
 
 /// Something that holds on the way to a check.
 #[derive(Clone, Copy)]
@@ -38,7 +37,7 @@ fn walk_one<'a>(
     facts: &mut Vec<Fact<'a>>,
     stmt: &'a Stmt,
     found: &mut Vec<Check<'a>>,
-) -> Result<(), GenFault>
+) -> Result<(), AllocError>
     ensures found { OnOk result (map check_of found.new.items ≡ map check_of found.old.items ++ conditions.checks_of (map formula_of facts.old.items) (stm stmt.now)) }
     ensures facts { OnOk result (facts.new.items ≡ facts.old.items) }
 {
@@ -72,7 +71,7 @@ pub fn walk<'a>(
     facts: &mut Vec<Fact<'a>>,
     stmts: &'a [Stmt],
     found: &mut Vec<Check<'a>>,
-) -> Result<(), GenFault>
+) -> Result<(), AllocError>
     ensures found { OnOk result (map check_of found.new.items ≡ map check_of found.old.items ++ conditions.checks (map formula_of facts.old.items) (stms stmts.now)) }
     ensures facts { OnOk result (facts.new.items ≡ facts.old.items) }
 {

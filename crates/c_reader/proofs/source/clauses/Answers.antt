@@ -1,4 +1,4 @@
-use Rattle.std.proofs.Common.{◌≡◌, ◌-◌, ◌+◌, length, map, false, true, ap, sym, ◌∙◌, arith, not}
+use Rattle.std.proofs.Common.{◌≡◌, ◌-◌, ◌+◌, length, map, false, true, ap, sym, ◌∙◌, arith}
 use Rattle.std.proofs.lemmas.List.{length-map}
 use Rattle.std.proofs.lemmas.Result.{err_from_is_err_and}
 use Rattle.c_syntax.specs.declared.token.Sign.TheVariants.{Annotation}

@@ -1,4 +1,4 @@
-use Rattle.std.proofs.Common.{◌≡◌, ◌∙◌, sym}
+use Rattle.std.proofs.Common.{◌∙◌, sym}
 use Rattle.c_reader.specs.Reading.{names_of}
 use Rattle.c_reader.proofs.Names.{fresh_name, known_name}
 use Rattle.c_reader.proofs.source.is_fresh.Goals as goal

@@ -1,7 +1,7 @@
-use Rattle.std.proofs.Common.{◌≡◌, ◌-◌, ◌+◌, false, true, ap, sym, ◌∙◌, arith}
+use Rattle.std.proofs.Common.{◌≡◌, ◌-◌, ◌+◌, false, true, sym, ◌∙◌, arith}
 use Rattle.std.proofs.lemmas.Result.{err_from_is_err_and}
 use Rattle.c_syntax.specs.Tree.{bool_exp}
-use Rattle.c_reader.specs.Reading.{joins, join, expr, brackets, single, lexemes, names_of, next_is, operator}
+use Rattle.c_reader.specs.Reading.{join, expr, lexemes, names_of, next_is, operator}
 use Rattle.c_reader.proofs.Turns.{many_stop, many_over, many_fails, many_goes, first_fails, first_ends, expr-none, expr-zero, expr-positive}
 use Rattle.c_reader.proofs.test.+test.Goals as goal
 
@@ -14,7 +14,8 @@ pub joins-returns-in_err-found-clause-gives : goal.joins-returns-in_err-found-cl
 joins-returns-in_err-found-clause-gives t c =
     let p = err_from_is_err_and c.from_residual.result c.from_residual.ensures.1 in
     let goes : next_is (operator c.args.at) (lexemes c.loop.found.2.now) ≡ true = cc in
-    rw (p.1, p.2) (many_fails _ _ c.in_err-found.field-0.0 _ _ _ _ goes (omega (arith, c.loop-test.true)) c.in_err-found.ensures.gives c.loop.invariant.same)
+    rw (p.1, p.2) (many_fails (next_is (operator c.args.at)) (join (names_of c.args.names.now) c.args.room (expr (names_of c.args.names.now) (c.args.room - 1)) c.args.at) c.in_err-found.field-0.0 (c.args.room - c.loop.counter)
+    (bool_exp c.loop.found.0, c.loop.found.1) (lexemes c.loop.found.2.now) _ goes (omega (arith, c.loop-test.true)) c.in_err-found.ensures.gives c.loop.invariant.same)
 
 pub joins-loop-preserved : goal.joins-loop-preserved
 joins-loop-preserved t c =

@@ -1,6 +1,6 @@
 use Rattle.std.proofs.Common.{codes, arith}
 use Rattle.cert_format.specs.Reading.{literal_at, clause_at}
-use Rattle.cert_format.proofs.Loop.{Goes, many_goes, many_ended, many_wordless, many_itemless}
+use Rattle.cert_format.proofs.Loop.{many_goes, many_ended, many_wordless, many_itemless}
 use Rattle.cert_format.proofs.decode.clause.Goals as goal
 
 pub returns-in-Some-clause-reads : goal.returns-in-Some-clause-reads

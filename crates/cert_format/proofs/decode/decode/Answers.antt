@@ -1,5 +1,8 @@
-use Rattle.cert_format.proofs.Certificates.{is_found}
+use Rattle.cert_format.proofs.Certificates.{is_found, is_only}
 use Rattle.cert_format.proofs.decode.decode.Goals as goal
 
-pub returns : goal.returns
-returns c = record { text = is_found c.args.bytes.now c.certificate.result c.certificate.ensures.reads }
+pub returns-clause-text : goal.returns-clause-text
+returns-clause-text c = is_found c.args.bytes.now c.certificate.result c.certificate.ensures.reads
+
+pub returns-clause-only : goal.returns-clause-only
+returns-clause-only c = is_only c.args.bytes.now c.certificate.result c.certificate.ensures.reads

@@ -1,4 +1,4 @@
-use Rattle.std.proofs.Common.{◌≡◌, ◌∷◌, ap, sym, ◌∙◌, length, arith}
+use Rattle.std.proofs.Common.{sym, arith}
 use Rattle.cert_format.proofs.First.{digits_stop, digits_end, digits_more, digits_large}
 use Rattle.cert_format.proofs.decode.digits.Goals as goal
 

@@ -1,5 +1,4 @@
-use Rattle.std.proofs.Common.{◌≡◌, sym, subst, Option, ℕ, List}
-use Rattle.cert_format.specs.Reading.{Finds, natural_at}
+use Rattle.std.proofs.Common.{sym}
 use Rattle.cert_format.proofs.First.{natural_zero, natural_refused, natural_digits}
 use Rattle.cert_format.proofs.decode.natural.Goals as goal
 

@@ -1,4 +1,4 @@
-use Rattle.std.proofs.Common.{◌≡◌, arith, refl}
+use Rattle.std.proofs.Common.{arith, refl}
 use Rattle.std.proofs.lemmas.Bool.{ne_eqb}
 use Rattle.std.proofs.lemmas.Int.{to_z_pos, to_z-of_z}
 use Rattle.std.specs.Int.{w128}
@@ -18,4 +18,4 @@ pub returns-then-size-eq0-clause-reads : goal.returns-then-size-eq0-clause-reads
 returns-then-size-eq0-clause-reads c = rw (number_minus c.args.bytes.now c.in_ok-first.first.now c.in_ok-first.behind.now c.in_ok-first.ensures.cases.0 c.if-first-ne45.false, c.in_ok-size.ensures.reads, c.if-size-eq0.true) refl
 
 pub returns-clause-reads : goal.returns-clause-reads
-returns-clause-reads c = rw (to_z-of_z w128 c.negative.result (record { sfits = c.negative.type_inv }), number_minus c.args.bytes.now c.in_ok-first.first.now c.in_ok-first.behind.now c.in_ok-first.ensures.cases.0 c.if-first-ne45.false, c.in_ok-size.ensures.reads, ne_eqb c.in_ok-size.size 0 c.if-size-eq0.false, c.negative.ensures) refl
+returns-clause-reads c = rw (to_z-of_z w128 c.negative.result (record { sfits = c.negative.type_inv }), number_minus c.args.bytes.now c.in_ok-first.first.now c.in_ok-first.behind.now c.in_ok-first.ensures.cases.0 c.if-first-ne45.false, c.in_ok-size.ensures.reads, ne_eqb c.in_ok-size.size 0 c.if-size-eq0.false, c.negative.ensures.value) refl

@@ -2,9 +2,8 @@ use Rattle.std.proofs.Common.{codes, arith}
 use Rattle.std.proofs.lemmas.Int.{to_z-of_z}
 use Rattle.std.specs.Int.{w128}
 use Rattle.cert_format.specs.Reading.{number_at, numbers_at}
-use Rattle.cert_format.proofs.Loop.{Goes, many_goes, many_ended, many_wordless, many_itemless}
+use Rattle.cert_format.proofs.Loop.{many_goes, many_ended, many_wordless, many_itemless}
 use Rattle.cert_format.proofs.Parts.{number_takes}
-use Rattle.cert_format.proofs.Lists.{many_takes}
 use Rattle.cert_format.proofs.decode.numbers.Goals as goal
 
 pub returns-in-Some-clause-reads : goal.returns-in-Some-clause-reads

@@ -1,9 +1,21 @@
-use Rattle.std.proofs.Common.{◌∙◌}
+use Rattle.std.proofs.Common.{◌∙◌, Err, subst}
 use Rattle.c_syntax.specs.Tree.{program as read_as}
-use Rattle.vcc_cli.proofs.Judging.{yes}
+use Rattle.c_syntax.specs.Reads.{IsOrMemory}
+use Rattle.c_syntax.specs.declared.fault.SourceFault.{SourceFault}
+use Rattle.vcc_cli.proofs.Reading.{program_answer, unbuilt_answer, safe_answer}
 use Rattle.vcc_cli.proofs.check.check.Goals as goal
 
-pub returns-clause-yes : goal.returns-clause-yes
-returns-clause-yes g c = λ m told is.
-    yes c.conditions_mean_safe.ensures m c.args.source.now c.args.cert.now c.in_ok-source.source.items c.in_ok-cert.cert.items c.deref.result.now c.deref-2.result.now (read_as c.in_ok-program.program)
-    (c.in_ok-source.ensures.bytes m told) (c.in_ok-cert.ensures.bytes m (c.in_ok-source.ensures.kept ∙ told)) c.deref.ensures.value c.deref-2.ensures.value c.in_ok-program.ensures.reads (c.in_ok-verdict.ensures.follow is) (c.in_ok-verdict.ensures.valid is)
+pub returns-in-Ok-read_source-clause-answer : goal.returns-in-Ok-read_source-clause-answer
+returns-in-Ok-read_source-clause-answer g c = λ m told.
+    program_answer m c.args.source.now c.args.cert.now c.in-Ok.bytes.items c.deref.result.now (read_as c.in-Ok-read_source.program) c.judge_name-answer.result
+    (c.in-Ok.ensures.bytes m told) c.deref.ensures.value c.in-Ok-read_source.ensures.reads c.in-Ok-read_source.ensures.only (c.judge_name-answer.ensures.answer m (c.in-Ok.ensures.kept ∙ told))
+
+pub returns-in-Ok-read_source-clause-safe : goal.returns-in-Ok-read_source-clause-safe
+returns-in-Ok-read_source-clause-safe g c = λ m told is.
+    safe_answer m c.args.source.now c.in-Ok.bytes.items c.deref.result.now (read_as c.in-Ok-read_source.program)
+    (c.in-Ok.ensures.bytes m told) c.deref.ensures.value c.in-Ok-read_source.ensures.reads c.conditions_mean_safe.ensures (c.judge_name-answer.ensures.valid is)
+
+pub returns-in-Err-NotBuilt-clause-answer : goal.returns-in-Err-NotBuilt-clause-answer
+returns-in-Err-NotBuilt-clause-answer g c = λ m told.
+    unbuilt_answer m c.args.source.now c.args.cert.now c.in-Ok.bytes.items c.deref.result.now
+    (c.in-Ok.ensures.bytes m told) c.deref.ensures.value (λ q form. subst (λ (fault : SourceFault). IsOrMemory read_as q (Err fault)) c.in-Err-NotBuilt.field-0-is (c.in-Err-NotBuilt.ensures.only q form))

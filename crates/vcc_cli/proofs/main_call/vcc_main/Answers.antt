@@ -1,11 +1,21 @@
 use Rattle.vcc_cli.specs.Command.{texts}
-use Rattle.vcc_cli.proofs.Judging.{safe_answer, accepted_answer}
+use Rattle.vcc_cli.proofs.Runs.{is_yes, usage_is_no_yes, accepted_run, safe_run, check_run, usage_run, complete_run}
 use Rattle.vcc_cli.proofs.main_call.vcc_main.Goals as goal
 
 pub returns-in-Some-clause-safe : goal.returns-in-Some-clause-safe
-returns-in-Some-clause-safe g c = λ m told zero.
-    safe_answer m (texts c.args.words.now) _ _ c.in-Some.ensures (c.check-answer.ensures.yes m told (c.report-status.ensures.yes zero))
+returns-in-Some-clause-safe g c = λ m told zeroed.
+    let is = is_yes _ _ _ c.report-status.ensures.reported zeroed in
+    safe_run m (texts c.args.words.now) _ _ _ c.in-Some.ensures is (c.check-answer.ensures.answer m told) (c.check-answer.ensures.safe m told is)
 
 pub returns-in-Some-clause-accepted : goal.returns-in-Some-clause-accepted
-returns-in-Some-clause-accepted g c = λ m told zero.
-    accepted_answer m (texts c.args.words.now) _ _ c.in-Some.ensures (c.check-answer.ensures.yes m told (c.report-status.ensures.yes zero))
+returns-in-Some-clause-accepted g c = λ m told zeroed.
+    accepted_run m (texts c.args.words.now) _ _ _ c.in-Some.ensures (is_yes _ _ _ c.report-status.ensures.reported zeroed) (c.check-answer.ensures.answer m told)
+
+pub returns-in-Some-clause-exact : goal.returns-in-Some-clause-exact
+returns-in-Some-clause-exact g c = λ m told.
+    check_run m (texts c.args.words.now) _ _ _ _ _ _ c.in-Some.ensures (c.check-answer.ensures.answer m told) c.check-answer.ensures.fault c.report-status.ensures.reported
+
+pub returns-in-Some-clause-complete : goal.returns-in-Some-clause-complete
+returns-in-Some-clause-complete g c = λ m told.
+    complete_run m (texts c.args.words.now) _ _ _
+    (check_run m (texts c.args.words.now) _ _ _ _ _ _ c.in-Some.ensures (c.check-answer.ensures.answer m told) c.check-answer.ensures.fault c.report-status.ensures.reported)

@@ -21,7 +21,7 @@ behind-returns-in_ok-id-in-If-clause-numbered t c =
 
 pub branch-loop-stmt-preserved : goal.branch-loop-stmt-preserved
 branch-loop-stmt-preserved t c =
-    let pushed = c.in_ok-push-2.ensures.ok in
+    let pushed = c.in_ok-push-2.ensures.items in
     record {
       within = rw pushed (within_push c.loop-stmt.ids.items c.in_ok-id.id (length c.loop-stmt.terms) (length c.behind.new.terms) c.loop-stmt.invariant.within c.in_ok-id.ensures.grows c.in_ok-id.ensures.within);
       grows = omega (arith, c.loop-stmt.invariant.grows, c.in_ok-id.ensures.grows);

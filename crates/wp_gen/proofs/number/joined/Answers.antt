@@ -5,7 +5,7 @@ use Rattle.wp_gen.proofs.number.joined.Goals as goal
 
 pub loop-x-preserved : goal.loop-x-preserved
 loop-x-preserved c =
-    let pushed = c.in_ok-push-2.ensures.ok in
+    let pushed = c.in_ok-push-2.ensures.items in
     record {
       within = rw pushed (within_push c.loop-x.ids.items c.in_ok-id.id (length c.loop-x.terms) (length c.fact.new.terms) c.loop-x.invariant.within c.in_ok-id.ensures.grows c.in_ok-id.ensures.within);
       grows = omega (arith, c.loop-x.invariant.grows, c.in_ok-id.ensures.grows);

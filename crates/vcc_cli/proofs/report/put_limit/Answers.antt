@@ -1,0 +1,12 @@
+use Rattle.std.proofs.Common.{[], ◌∷◌, ◌++◌, codes, decimal, ◌∙◌}
+use Rattle.vcc_base.specs.Limits.{number_of, name_of}
+use Rattle.vcc_cli.specs.Lines.{line}
+use Rattle.vcc_cli.proofs.Printing.{then_written, is_written, is_decimal}
+use Rattle.vcc_cli.proofs.report.put_limit.Goals as goal
+
+pub returns-clause-ok : goal.returns-clause-ok
+returns-clause-ok g c =
+    then_written _ _ _ (codes "limit: ") (name_of c.args.limit ++ (codes " " ++ line (decimal (number_of c.args.limit)))) c.in_ok-put_all.ensures.ok
+    (then_written _ _ _ (name_of c.args.limit) (codes " " ++ line (decimal (number_of c.args.limit))) (is_written _ _ c.as_bytes.result.now (name_of c.args.limit) (c.as_bytes.ensures.value ∙ c.name.ensures) c.in_ok-put_all-2.ensures.ok)
+    (then_written _ _ _ (codes " ") (line (decimal (number_of c.args.limit))) c.in_ok-put_all-3.ensures.ok
+    (then_written _ _ _ (decimal (number_of c.args.limit)) (10 ∷ []) (is_decimal _ _ c.number.result (number_of c.args.limit) c.number.ensures c.in_ok-put_natural.ensures.ok) c.in_ok-put_all-4.ensures.ok)))

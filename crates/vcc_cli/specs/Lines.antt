@@ -1,0 +1,48 @@
+-- What is printed for an answer, and its status.
+use Rattle.std.specs.Prelude.{◌≡◌, ◌⊎◌, ℕ, ◌<◌, List, [], ◌∷◌, ◌++◌, Option, Result, Ok, Err, codes, decimal}
+use Rattle.vcc_base.specs.Maps.{NowWritten}
+use Rattle.vcc_base.specs.Limits.{number_of, name_of}
+use Rattle.vcc_cli.specs.declared.judge.Verdict.{Verdict}
+use Rattle.vcc_cli.specs.declared.judge.Verdict.TheVariants.{Yes, No}
+use Rattle.vcc_cli.specs.declared.refusal.Refusal.{Refusal}
+use Rattle.vcc_cli.specs.declared.refusal.Refusal.TheVariants.{Usage, NotBuilt, Refused, Limit, Missing, ReadFault, OutOfMemory}
+
+-- a line of this text
+abbrev pub line : List ℕ → List ℕ
+line text = text ++ 10 ∷ []
+
+-- the line of an answer
+abbrev pub line_of : Result Verdict Refusal → List ℕ
+line_of (Ok Yes) = line (codes "yes")
+line_of (Ok (No label)) = codes "no: main/" ++ (decimal label.ordinal ++ (codes " Assert line " ++ line (decimal label.line)))
+line_of (Err Usage) = line (codes "usage: vcc check SOURCE CERT")
+line_of (Err NotBuilt) = line (codes "source: not built")
+line_of (Err Refused) = line (codes "certificate: refused")
+line_of (Err (Limit limit)) = codes "limit: " ++ (name_of limit ++ (codes " " ++ line (decimal (number_of limit))))
+line_of (Err (Missing name)) = codes "missing: " ++ line name.now
+line_of (Err (ReadFault name)) = codes "read fault: " ++ line name.now
+line_of (Err OutOfMemory) = line (codes "out of memory")
+
+-- the status of an answer
+abbrev pub status_of : Result Verdict Refusal → ℕ
+status_of (Ok Yes) = 0
+status_of (Ok (No label)) = 1
+status_of (Err Usage) = 2
+status_of (Err NotBuilt) = 3
+status_of (Err Refused) = 4
+status_of (Err (Limit limit)) = 5
+status_of (Err (Missing name)) = 6
+status_of (Err (ReadFault name)) = 6
+status_of (Err OutOfMemory) = 8
+
+-- how many writes failed before and after, and the bytes written before and after, where they are told
+pub record Written : Type 0 where
+  pub faults_before : ℕ
+  pub faults_after : ℕ
+  pub before : Option (List ℕ)
+  pub after : Option (List ℕ)
+
+-- The answer's line is written, and the status is its own; or a write failed, and it is 7; or memory was wanted, and it is 8.
+abbrev pub IsReported : Result Verdict Refusal → Written → ℕ → Type 0
+IsReported answer w status =
+    ((status ≡ status_of answer) × NowWritten w.before w.after (line_of answer)) ⊎ ((status ≡ 7) × (w.faults_before < w.faults_after)) ⊎ (status ≡ 8)

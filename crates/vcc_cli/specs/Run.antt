@@ -1,0 +1,20 @@
+-- What a run of the program gives.
+use Rattle.std.specs.Prelude.{◌≡◌, ℕ, ◌<◌, List, Result}
+use Rattle.vcc_base.specs.Maps.{Map}
+use Rattle.vcc_cli.specs.declared.judge.Verdict.{Verdict}
+use Rattle.vcc_cli.specs.declared.refusal.Refusal.{Refusal}
+use Rattle.vcc_cli.specs.Answer.{IsAnswer}
+use Rattle.vcc_cli.specs.Faults.{IsReadFault}
+use Rattle.vcc_cli.specs.Lines.{Written, IsReported}
+
+-- how many reads failed before and after
+pub record ReadCounts : Type 0 where
+  pub reads_before : ℕ
+  pub reads_after : ℕ
+
+-- The answer of the words is reported; it is a read fault only where a read failed.
+pub record IsRun (m : Map) (words : List (List ℕ)) (reads : ReadCounts) (written : Written) (status : ℕ) : Type 0 where
+  pub answer : Result Verdict Refusal
+  pub answers : IsAnswer m words answer
+  pub fault : IsReadFault answer → reads.reads_before < reads.reads_after
+  pub reported : IsReported answer written status
