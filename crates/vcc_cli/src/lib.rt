@@ -9,3 +9,6 @@ pub mod refusal;
 pub mod report;
 
 pub use main_call::vcc_main;
+
+#[cfg(test)]
+mod tests;

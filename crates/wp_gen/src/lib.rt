@@ -4,4 +4,6 @@
 pub mod condition;
 pub mod law;
 mod number;
+#[cfg(test)]
+mod tests;
 pub mod walk;
