@@ -1,14 +1,10 @@
 -- The judge's loop.
-use Rattle.std.proofs.Common.{◌≡◌, ℕ, zero, suc, ◌+◌, ◌<◌, ◌≤◌, List, [], ◌∷◌, map, drop, length, get_or, refl, ap, sym, ◌∙◌, subst, arith, add-one, drop-cons, length-drop}
+use Rattle.std.proofs.Common.{◌≡◌, ℕ, zero, suc, ◌+◌, ◌<◌, ◌≤◌, List, [], ◌∷◌, map, drop, length, get_or, refl, ap, sym, subst, arith, add-one, drop-cons}
 use Rattle.cert_format.specs.declared.certificate.Step.{Step}
-use Rattle.wp_gen.specs.Conditions.{Check, condition, checks_of_program}
-use Rattle.wp_gen.specs.Law.{IsValid, ConditionsMeanSafe}
+use Rattle.wp_gen.specs.Conditions.{Check, condition}
+use Rattle.wp_gen.specs.Law.{IsValid}
 use Rattle.std.proofs.Common.{Some, slice_get}
 use Rattle.terms.specs.Formula.{Formula}
-use Rattle.vcc_base.specs.Maps.{Map}
-use Rattle.c_syntax.specs.Tree.{Prog}
-use Rattle.c_syntax.specs.Reads.{Reads, IsFirstForm}
-use Rattle.cert_format.specs.Text.{IsCertText}
 use Rattle.std.proofs.Common.{inl, inr}
 use Rattle.vcc_cli.specs.declared.judge.Label.{Label}
 use Rattle.vcc_cli.specs.Answer.{FirstNot}

@@ -1,5 +1,5 @@
 -- What the reads of a check give.
-use Rattle.std.proofs.Common.{◌≡◌, ◌⊎◌, inl, inr, ℕ, List, Some, Result, Ok, Err, refl, subst}
+use Rattle.std.proofs.Common.{◌≡◌, inl, inr, ℕ, List, Result, Err, refl, subst}
 use Rattle.c_syntax.specs.Tree.{Prog}
 use Rattle.c_syntax.specs.Reads.{IsFirstForm}
 use Rattle.wp_gen.specs.Conditions.{checks_of_program}

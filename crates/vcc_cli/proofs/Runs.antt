@@ -1,8 +1,8 @@
 -- From a run's answer to its meaning, and from acceptance to the answer.
 use Rattle.std.specs.Prelude.{codes}
-use Rattle.std.proofs.Common.{◌≡◌, ◌≢◌, ◌⊎◌, inl, inr, ℕ, zero, suc, ◌+◌, ◌<◌, ◌≤◌, List, [], ◌∷◌, length, Option, Some, None, IsNone, Result, Ok, Err, refl, ap, sym, ◌∙◌, subst, arith}
+use Rattle.std.proofs.Common.{◌≡◌, ◌⊎◌, inl, inr, ℕ, suc, ◌+◌, ◌<◌, ◌≤◌, List, [], ◌∷◌, length, Option, Some, IsNone, Result, Ok, Err, refl, ap, sym, ◌∙◌, subst, arith}
 use Rattle.c_syntax.specs.Tree.{Prog}
-use Rattle.c_syntax.specs.Reads.{Reads, IsFirstForm}
+use Rattle.c_syntax.specs.Reads.{IsFirstForm}
 use Rattle.cert_format.specs.declared.certificate.Step.{Step}
 use Rattle.cert_format.specs.Text.{IsCertText}
 use Rattle.wp_gen.specs.Conditions.{Check, checks_of_program}
@@ -16,8 +16,8 @@ use Rattle.vcc_cli.specs.declared.judge.Verdict.TheVariants.{Yes, No}
 use Rattle.vcc_cli.specs.declared.refusal.Refusal.{Refusal}
 use Rattle.vcc_cli.specs.declared.refusal.Refusal.TheVariants.{Usage, NotBuilt, Refused, Limit, Missing, ReadFault, OutOfMemory}
 use Rattle.vcc_cli.specs.Command.{IsCheck}
-use Rattle.vcc_cli.specs.Accepts.{Accepts, AllFollow, FollowsBy}
-use Rattle.vcc_cli.specs.Answer.{AreJudged, FirstNot, HoldsTooMuch, HoldsWithin, IsAccepted, IsAnswer, IsCertAnswer, IsCertificateOf, IsCheckAnswer, IsCheckOf, IsJudged, IsProgramOf, IsSafeAnswer, IsSafeSource, IsSourceAnswer, IsUnread, IsUnreadAnswer, SourceIsSafe}
+use Rattle.vcc_cli.specs.Accepts.{Accepts, AllFollow}
+use Rattle.vcc_cli.specs.Answer.{AreJudged, FirstNot, HoldsTooMuch, IsAccepted, IsAnswer, IsCertAnswer, IsCertificateOf, IsCheckAnswer, IsCheckOf, IsProgramOf, IsSafeAnswer, IsSafeSource, IsUnread, IsUnreadAnswer, SourceIsSafe}
 use Rattle.vcc_cli.specs.Faults.{IsReadFault}
 use Rattle.vcc_cli.specs.Lines.{IsReported, Written, status_of}
 use Rattle.vcc_cli.specs.Run.{IsRun, ReadCounts}
@@ -42,7 +42,7 @@ yes_has_zero (Err OutOfMemory) e = absurd (omega arith)
 pub is_yes : (answer : Result Verdict Refusal) (w : Written) (status : ℕ) → IsReported answer w status → status ≡ 0 → answer ≡ Ok Yes
 is_yes answer w status (inl reported) zeroed = yes_has_zero answer (sym zeroed ∙ reported.0)
 is_yes answer w status (inr (inl failed)) zeroed = let seven : status ≡ 7 = failed.0 in absurd (omega (arith, seven, zeroed))
-is_yes answer w status (inr (inr eight)) zeroed = absurd (omega (arith, eight, zeroed))
+is_yes answer w status (inr (inr wanting)) zeroed = let eight : status ≡ 8 = wanting.0 in absurd (omega (arith, eight, zeroed))
 
 -- ---- what a yes means
 
@@ -212,7 +212,7 @@ answer_yes m words source cert answer accepts names within form (inr found) =
 -- the status of a yes or of want of memory, where no write failed
 reported_yes : (answer : Result Verdict Refusal) (reads : ReadCounts) (w : Written) (status : ℕ) → IsYesOrFault answer → (IsReadFault answer → reads.reads_before < reads.reads_after) → reads.reads_after ≤ reads.reads_before → w.faults_after ≤ w.faults_before → IsReported answer w status → (status ≡ 0) ⊎ (status ≡ 8)
 reported_yes answer reads w status which fault no_read no_write (inr (inl failed)) = let rose : w.faults_before < w.faults_after = failed.1 in absurd (omega (arith, rose, no_write))
-reported_yes answer reads w status which fault no_read no_write (inr (inr eight)) = inr eight
+reported_yes answer reads w status which fault no_read no_write (inr (inr eight)) = inr eight.0
 reported_yes answer reads w status (inl yes_is) fault no_read no_write (inl reported) = inl (reported.0 ∙ ap status_of yes_is)
 reported_yes answer reads w status (inr (inl wanting)) fault no_read no_write (inl reported) = inr (reported.0 ∙ ap status_of wanting)
 reported_yes answer reads w status (inr (inr faulty)) fault no_read no_write (inl reported) = let rose = fault faulty in absurd (omega (arith, rose, no_read))

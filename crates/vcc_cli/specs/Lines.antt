@@ -1,6 +1,6 @@
 -- What is printed for an answer, and its status.
 use Rattle.std.specs.Prelude.{◌≡◌, ◌⊎◌, ℕ, ◌<◌, List, [], ◌∷◌, ◌++◌, Option, Result, Ok, Err, codes, decimal}
-use Rattle.vcc_base.specs.Maps.{NowWritten}
+use Rattle.vcc_base.specs.Maps.{NowWritten, FrontWritten}
 use Rattle.vcc_base.specs.Limits.{number_of, name_of}
 use Rattle.vcc_cli.specs.declared.judge.Verdict.{Verdict}
 use Rattle.vcc_cli.specs.declared.judge.Verdict.TheVariants.{Yes, No}
@@ -42,7 +42,7 @@ pub record Written : Type 0 where
   pub before : Option (List ℕ)
   pub after : Option (List ℕ)
 
--- The answer's line is written, and the status is its own; or a write failed, and it is 7; or memory was wanted, and it is 8.
+-- The answer's line is written, and the status is its own; or a front of the line is written, and a write failed, with status 7, or memory was wanted, with status 8.
 abbrev pub IsReported : Result Verdict Refusal → Written → ℕ → Type 0
 IsReported answer w status =
-    ((status ≡ status_of answer) × NowWritten w.before w.after (line_of answer)) ⊎ ((status ≡ 7) × (w.faults_before < w.faults_after)) ⊎ (status ≡ 8)
+    ((status ≡ status_of answer) × NowWritten w.before w.after (line_of answer)) ⊎ ((status ≡ 7) × (w.faults_before < w.faults_after) × FrontWritten w.before w.after (line_of answer)) ⊎ ((status ≡ 8) × FrontWritten w.before w.after (line_of answer))

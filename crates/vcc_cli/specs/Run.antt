@@ -1,5 +1,5 @@
 -- What a run of the program gives.
-use Rattle.std.specs.Prelude.{◌≡◌, ℕ, ◌<◌, List, Result}
+use Rattle.std.specs.Prelude.{ℕ, ◌<◌, List, Result}
 use Rattle.vcc_base.specs.Maps.{Map}
 use Rattle.vcc_cli.specs.declared.judge.Verdict.{Verdict}
 use Rattle.vcc_cli.specs.declared.refusal.Refusal.{Refusal}

@@ -1,7 +1,7 @@
 //! What the program prints, and its status.
 
-ghost use Rattle.std.specs.Prelude.{◌≡◌, ◌<◌, ◌≤◌, ◌++◌, OnOk, IsErrOf, codes, decimal};
-ghost use Rattle.vcc_base.specs.Maps.{NowWritten};
+ghost use Rattle.std.specs.Prelude.{◌≡◌, ◌<◌, ◌≤◌, ◌++◌, OnOk, OnErr, IsErrOf, codes, decimal};
+ghost use Rattle.vcc_base.specs.Maps.{NowWritten, FrontWritten};
 ghost use Rattle.vcc_base.specs.Limits.{number_of, name_of};
 ghost use Rattle.vcc_cli.specs.Lines.{IsReported, line, line_of, status_of};
 
@@ -14,6 +14,7 @@ use vcc_base::whole::{put_all, put_number};
 /// A natural number in decimal.
 fn put_natural<O: Sink>(out: &mut O, number: u64) -> Result<(), SinkFault>
     ensures ok { OnOk result (NowWritten (O.written out.old) (O.written out.new) (decimal number)) }
+    ensures err { OnErr result (FrontWritten (O.written out.old) (O.written out.new) (decimal number)) }
     ensures failed { IsErrOf result SinkFault.Failed → O.faults out.old < O.faults out.new }
     ensures never_falls { O.faults out.old ≤ O.faults out.new }
 {
@@ -23,6 +24,7 @@ fn put_natural<O: Sink>(out: &mut O, number: u64) -> Result<(), SinkFault>
 /// The line of a check that doesn't follow.
 fn put_no<O: Sink>(out: &mut O, label: Label) -> Result<(), SinkFault>
     ensures ok { OnOk result (NowWritten (O.written out.old) (O.written out.new) (codes "no: main/" ++ (decimal label.ordinal ++ (codes " Assert line " ++ line (decimal label.line))))) }
+    ensures err { OnErr result (FrontWritten (O.written out.old) (O.written out.new) (codes "no: main/" ++ (decimal label.ordinal ++ (codes " Assert line " ++ line (decimal label.line))))) }
     ensures failed { IsErrOf result SinkFault.Failed → O.faults out.old < O.faults out.new }
     ensures never_falls { O.faults out.old ≤ O.faults out.new }
 {
@@ -37,6 +39,7 @@ fn put_no<O: Sink>(out: &mut O, label: Label) -> Result<(), SinkFault>
 /// A line of a word and a name.
 fn put_named<O: Sink>(out: &mut O, word: &[u8], name: &str) -> Result<(), SinkFault>
     ensures ok { OnOk result (NowWritten (O.written out.old) (O.written out.new) (word.now ++ line name.now)) }
+    ensures err { OnErr result (FrontWritten (O.written out.old) (O.written out.new) (word.now ++ line name.now)) }
     ensures failed { IsErrOf result SinkFault.Failed → O.faults out.old < O.faults out.new }
     ensures never_falls { O.faults out.old ≤ O.faults out.new }
 {
@@ -49,6 +52,7 @@ fn put_named<O: Sink>(out: &mut O, word: &[u8], name: &str) -> Result<(), SinkFa
 /// The line of a limit.
 fn put_limit<O: Sink>(out: &mut O, limit: Limit) -> Result<(), SinkFault>
     ensures ok { OnOk result (NowWritten (O.written out.old) (O.written out.new) (codes "limit: " ++ (name_of limit ++ (codes " " ++ line (decimal (number_of limit)))))) }
+    ensures err { OnErr result (FrontWritten (O.written out.old) (O.written out.new) (codes "limit: " ++ (name_of limit ++ (codes " " ++ line (decimal (number_of limit)))))) }
     ensures failed { IsErrOf result SinkFault.Failed → O.faults out.old < O.faults out.new }
     ensures never_falls { O.faults out.old ≤ O.faults out.new }
 {
@@ -63,6 +67,7 @@ fn put_limit<O: Sink>(out: &mut O, limit: Limit) -> Result<(), SinkFault>
 /// Prints the line of an answer.
 fn put_answer<O: Sink>(out: &mut O, answer: Result<Verdict, Refusal<'_>>) -> Result<(), SinkFault>
     ensures ok { OnOk result (NowWritten (O.written out.old) (O.written out.new) (line_of answer.entry)) }
+    ensures err { OnErr result (FrontWritten (O.written out.old) (O.written out.new) (line_of answer.entry)) }
     ensures failed { IsErrOf result SinkFault.Failed → O.faults out.old < O.faults out.new }
 {
     match answer {

@@ -1,7 +1,7 @@
 -- Formulas that are numbered one after the other, and joined.
 use Rattle.std.proofs.lemmas.Grind.{take_at_read}
 use Rattle.std.proofs.lemmas.List.Elements.{All-push}
-use Rattle.std.proofs.Common.{All, arith, ◌+◌, ◌<◌, ◌≤◌, ◌≡◌, ℕ, suc, pos, List, [], ◌∷◌, ◌++◌, map, take, drop, length, get_or, refl, ap, sym, ◌∙◌, subst}
+use Rattle.std.proofs.Common.{All, arith, ◌+◌, ◌<◌, ◌≤◌, ◌≡◌, ℕ, pos, List, [], ◌∷◌, ◌++◌, map, take, length, get_or, refl, ap, sym, ◌∙◌, subst}
 use Rattle.terms.specs.declared.term.Term.{Term}
 use Rattle.terms.specs.declared.term.Kind.TheVariants as k
 use Rattle.terms.specs.Formula.{Formula, Numbered, Interns, term}
@@ -12,7 +12,7 @@ use Rattle.c_syntax.specs.declared.tree.Test as e
 use Rattle.c_syntax.specs.declared.token.Span.{Span}
 use mathlib.Core.Former.{Count}
 use Rattle.std.proofs.Common.{Vec, Global}
-use Rattle.wp_gen.specs.Translation.{all_of, test, negation, disjunction, implication, good_entry, fact_behind, facts_behind}
+use Rattle.wp_gen.specs.Translation.{all_of, test, negation, implication, good_entry, fact_behind, facts_behind}
 use Rattle.wp_gen.specs.Facts.{ListNumbered, Folds, Joins}
 
 -- one more formula behind

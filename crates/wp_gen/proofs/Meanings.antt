@@ -1,12 +1,12 @@
 -- What the formulas of tests, ranges and facts say in the environment of some arguments.
-use Rattle.std.proofs.Common.{◌≡◌, ℕ, ℤ, pos, negsuc, List, [], ◌∷◌, ◌++◌, map, Some, slice_get, get_or, Bool, true, false, not, ◌&&◌, ◌||◌, ◌≤ℤ◌, refl, ap, sym, ◌∙◌, subst, eq-eqb, nat_eq}
+use Rattle.std.proofs.Common.{◌≡◌, ℕ, ℤ, pos, negsuc, List, [], ◌∷◌, ◌++◌, map, get_or, Bool, true, false, not, ◌&&◌, ◌||◌, ◌≤ℤ◌, refl, ap, sym, ◌∙◌, subst, eq-eqb}
 use Rattle.std.proofs.lemmas.Bool.{eqb-true}
-use Rattle.object_types.specs.Heap.{Heap, empty_heap}
+use Rattle.object_types.specs.Heap.{empty_heap}
 use Rattle.terms.specs.declared.term.Term.{Term}
 use Rattle.terms.specs.declared.term.Kind.{Kind}
 use Rattle.terms.specs.declared.term.Kind.TheVariants as k
 use Rattle.terms.specs.Formula.{Formula, leaf, unary, binary, term, Stands}
-use Rattle.terms.specs.Meaning.{Env, Value, BoolValue, IntValue, truth, number as int_of, Means, Decides, IsValuation}
+use Rattle.terms.specs.Meaning.{Env, Value, IntValue, truth, number as int_of, Means, IsValuation}
 use Rattle.terms.proofs.Valuations.{decide}
 use Rattle.c_syntax.specs.declared.tree.Operand.{Operand}
 use Rattle.c_syntax.specs.declared.tree.Operand.TheVariants as o
@@ -14,7 +14,7 @@ use Rattle.c_syntax.specs.declared.tree.Comparison.{Comparison}
 use Rattle.c_syntax.specs.declared.tree.Comparison.TheVariants as c
 use Rattle.c_syntax.specs.Tree as t
 use Rattle.ref_machine.specs.Value.{operand_value, same_int, comparison_value, holds}
-use Rattle.wp_gen.specs.Translation.{number, parameter, equal, at_most, negation, conjunction, disjunction, implication, operand, comparison, test, all_of, good_entry}
+use Rattle.wp_gen.specs.Translation.{number, parameter, equal, at_most, negation, conjunction, disjunction, operand, comparison, test, all_of, good_entry}
 use Rattle.wp_gen.specs.Conditions.{Check, condition}
 use Rattle.wp_gen.specs.Law.{IsValid}
 

@@ -1,15 +1,14 @@
 -- The machine's steps, where every function that is being run runs without a fault.
-use Rattle.std.proofs.Common.{◌≡◌, ℕ, zero, suc, ◌+◌, ◌<◌, ◌≤◌, ◌==◌, ℤ, pos, negsuc, ◌≤ℤ◌, List, [], ◌∷◌, ◌++◌, map, length, All, Some, slice_get, get_or, Bool, true, false, cond, IsTrue, refl, ap, sym, ◌∙◌, subst, arith}
+use Rattle.std.proofs.Common.{◌≡◌, ℕ, suc, ◌+◌, ◌==◌, ℤ, pos, ◌≤ℤ◌, List, [], ◌∷◌, ◌++◌, map, length, All, get_or, Bool, true, false, cond, IsTrue, refl, ap, sym, ◌∙◌, subst, arith}
 use Rattle.std.proofs.lemmas.List.Elements.{All-head, All-tail}
-use Rattle.terms.specs.Formula.{Formula}
 use Rattle.c_syntax.specs.Tree as t
 use Rattle.ref_machine.specs.Value.{IsInt, least_int, greatest_int, holds}
-use Rattle.ref_machine.specs.Machine.{Frame, Thread, State, Event, Answer, NotEnabled, Fault, Next, Turn, Misfit, Fails, Goes, code_of, with_code, frame_turn, thread_turn, frames_of, with_frames, answer_of, step, left_by, run}
-use Rattle.ref_machine.specs.Safe.{IsStart, IsNoFault, Safe}
-use Rattle.wp_gen.specs.Translation.{test, number, parameter, good_entry, ranges, at_least_least, at_most_greatest}
-use Rattle.wp_gen.specs.Conditions.{checks_of_program, conditions, entry_facts}
-use Rattle.wp_gen.specs.Law.{IsValid, ConditionsMeanSafe}
-use Rattle.wp_gen.proofs.Meanings.{Says, AllSay, all_say_append, says_test, says_good, says_at_most, counts_number, counts_parameter, env_of}
+use Rattle.ref_machine.specs.Machine.{Frame, Thread, State, Event, Turn, Misfit, Fails, Goes, code_of, with_code, frame_turn, thread_turn, frames_of, with_frames, answer_of, step, left_by, run}
+use Rattle.ref_machine.specs.Safe.{IsNoFault}
+use Rattle.wp_gen.specs.Translation.{test, number, parameter, ranges}
+use Rattle.wp_gen.specs.Conditions.{checks_of_program, entry_facts}
+use Rattle.wp_gen.specs.Law.{ConditionsMeanSafe}
+use Rattle.wp_gen.proofs.Meanings.{Says, AllSay, all_say_append, says_test, says_at_most, counts_number, counts_parameter, env_of}
 use Rattle.wp_gen.proofs.Walks.{Runs, AllRun, all_valid, all_run}
 
 abbrev ListRuns : List ℤ → List t.Stm → Type 0

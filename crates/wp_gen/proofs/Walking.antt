@@ -1,5 +1,5 @@
 -- The code's walk of a program's text.
-use Rattle.std.proofs.Common.{◌≡◌, ℕ, suc, ◌+◌, ◌-◌, ◌<◌, ◌≤◌, List, [], ◌∷◌, ◌++◌, map, take, drop, length, get_or, refl, ap, sym, ◌∙◌, subst, append_assoc, arith, add-one, drop-cons}
+use Rattle.std.proofs.Common.{◌≡◌, ℕ, suc, ◌+◌, ◌-◌, ◌<◌, List, [], ◌∷◌, ◌++◌, map, take, drop, length, get_or, refl, ap, sym, ◌∙◌, append_assoc, arith, add-one, drop-cons}
 use Rattle.c_syntax.specs.declared.tree.Stmt as s
 use Rattle.c_syntax.specs.Tree as t
 use Rattle.terms.specs.Formula.{Formula}

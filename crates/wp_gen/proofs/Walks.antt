@@ -1,9 +1,9 @@
 -- Where the checks of statements are valid and the facts so far hold, the statements run without a fault.
-use Rattle.std.proofs.Common.{◌≡◌, ℕ, zero, suc, ◌+◌, ℤ, pos, List, [], ◌∷◌, ◌++◌, map, length, Some, slice_get, get_or, Bool, true, false, not, refl, ap, sym, ◌∙◌, subst}
+use Rattle.std.proofs.Common.{◌≡◌, ℕ, suc, ℤ, List, [], ◌∷◌, ◌++◌, map, Some, slice_get, Bool, true, false, not, refl, sym, ◌∙◌, subst}
 use Rattle.terms.specs.Formula.{Formula}
 use Rattle.c_syntax.specs.Tree as t
 use Rattle.ref_machine.specs.Value.{holds}
-use Rattle.wp_gen.specs.Translation.{test, negation, disjunction, all_of, fact_behind, facts_behind}
+use Rattle.wp_gen.specs.Translation.{test, negation, all_of, fact_behind, facts_behind}
 use Rattle.wp_gen.specs.Conditions.{Check, condition, checks, checks_of}
 use Rattle.wp_gen.specs.Law.{IsValid}
 use Rattle.wp_gen.proofs.Meanings.{Says, AllSay, all_say_append, says_all, says_test, says_not, says_or_left, says_or_right, says_good, valid_gives, env_of}

@@ -1,5 +1,5 @@
 -- Tests, ranges and facts as formulas. From VCC: annotations become formulas of first-order logic over integers and heaps.
-use Rattle.std.specs.Prelude.{ℕ, zero, suc, ◌+◌, ℤ, pos, List, [], ◌∷◌, ◌++◌, map}
+use Rattle.std.specs.Prelude.{ℕ, zero, suc, ◌+◌, ℤ, pos, List, [], ◌∷◌}
 use Rattle.c_syntax.specs.declared.tree.Operand.{Operand}
 use Rattle.c_syntax.specs.declared.tree.Operand.TheVariants as o
 use Rattle.c_syntax.specs.declared.tree.Comparison.{Comparison}

@@ -1,5 +1,4 @@
-use Rattle.std.proofs.Common.{◌≡◌, ◌∷◌, [], ap, sym, ◌∙◌, List, ℕ, length, arith, rules, string_bytes, codes}
-use Rattle.std.proofs.lemmas.Grind.{common_steps}
+use Rattle.std.proofs.Common.{◌≡◌, ap, length, arith, rules, string_bytes, codes}
 use Rattle.vcc_cli.specs.Command.{texts}
 use Rattle.vcc_cli.proofs.Judging.{three}
 use Rattle.vcc_cli.proofs.command.check_command.Goals as goal

@@ -1,5 +1,5 @@
 use Rattle.vcc_cli.specs.Command.{texts}
-use Rattle.vcc_cli.proofs.Runs.{is_yes, usage_is_no_yes, accepted_run, safe_run, check_run, usage_run, complete_run}
+use Rattle.vcc_cli.proofs.Runs.{is_yes, accepted_run, safe_run, check_run, complete_run}
 use Rattle.vcc_cli.proofs.main_call.vcc_main.Goals as goal
 
 pub returns-in-Some-clause-safe : goal.returns-in-Some-clause-safe

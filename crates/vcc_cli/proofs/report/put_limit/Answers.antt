@@ -1,7 +1,8 @@
 use Rattle.std.proofs.Common.{[], ◌∷◌, ◌++◌, codes, decimal, ◌∙◌}
 use Rattle.vcc_base.specs.Limits.{number_of, name_of}
 use Rattle.vcc_cli.specs.Lines.{line}
-use Rattle.vcc_cli.proofs.Printing.{then_written, is_written, is_decimal}
+use Rattle.vcc_base.proofs.Outcomes.{on_err}
+use Rattle.vcc_cli.proofs.Printing.{then_written, is_written, is_decimal, is_front, is_front_decimal, front_first, front_more}
 use Rattle.vcc_cli.proofs.report.put_limit.Goals as goal
 
 pub returns-clause-ok : goal.returns-clause-ok
@@ -10,3 +11,37 @@ returns-clause-ok g c =
     (then_written _ _ _ (name_of c.args.limit) (codes " " ++ line (decimal (number_of c.args.limit))) (is_written _ _ c.as_bytes.result.now (name_of c.args.limit) (c.as_bytes.ensures.value ∙ c.name.ensures) c.in_ok-put_all-2.ensures.ok)
     (then_written _ _ _ (codes " ") (line (decimal (number_of c.args.limit))) c.in_ok-put_all-3.ensures.ok
     (then_written _ _ _ (decimal (number_of c.args.limit)) (10 ∷ []) (is_decimal _ _ c.number.result (number_of c.args.limit) c.number.ensures c.in_ok-put_natural.ensures.ok) c.in_ok-put_all-4.ensures.ok)))
+
+pub returns-in_err-put_all-clause-err : goal.returns-in_err-put_all-clause-err
+returns-in_err-put_all-clause-err g c =
+    on_err c.from_residual.result _
+    (front_first _ _ (codes "limit: ") (name_of c.args.limit ++ (codes " " ++ line (decimal (number_of c.args.limit)))) c.in_err-put_all.ensures.err)
+
+pub returns-in_err-put_all-2-clause-err : goal.returns-in_err-put_all-2-clause-err
+returns-in_err-put_all-2-clause-err g c =
+    on_err c.from_residual-in_err-put_all-2.result _
+    (front_more _ _ _ (codes "limit: ") (name_of c.args.limit ++ (codes " " ++ line (decimal (number_of c.args.limit)))) c.in_ok-put_all.ensures.ok
+    (front_first _ _ (name_of c.args.limit) (codes " " ++ line (decimal (number_of c.args.limit))) (is_front _ _ c.as_bytes.result.now (name_of c.args.limit) (c.as_bytes.ensures.value ∙ c.name.ensures) c.in_err-put_all-2.ensures.err)))
+
+pub returns-in_err-put_all-3-clause-err : goal.returns-in_err-put_all-3-clause-err
+returns-in_err-put_all-3-clause-err g c =
+    on_err c.from_residual-in_err-put_all-3.result _
+    (front_more _ _ _ (codes "limit: ") (name_of c.args.limit ++ (codes " " ++ line (decimal (number_of c.args.limit)))) c.in_ok-put_all.ensures.ok
+    (front_more _ _ _ (name_of c.args.limit) (codes " " ++ line (decimal (number_of c.args.limit))) (is_written _ _ c.as_bytes.result.now (name_of c.args.limit) (c.as_bytes.ensures.value ∙ c.name.ensures) c.in_ok-put_all-2.ensures.ok)
+    (front_first _ _ (codes " ") (line (decimal (number_of c.args.limit))) c.in_err-put_all-3.ensures.err)))
+
+pub returns-in_err-put_natural-clause-err : goal.returns-in_err-put_natural-clause-err
+returns-in_err-put_natural-clause-err g c =
+    on_err c.from_residual-in_err-put_natural.result _
+    (front_more _ _ _ (codes "limit: ") (name_of c.args.limit ++ (codes " " ++ line (decimal (number_of c.args.limit)))) c.in_ok-put_all.ensures.ok
+    (front_more _ _ _ (name_of c.args.limit) (codes " " ++ line (decimal (number_of c.args.limit))) (is_written _ _ c.as_bytes.result.now (name_of c.args.limit) (c.as_bytes.ensures.value ∙ c.name.ensures) c.in_ok-put_all-2.ensures.ok)
+    (front_more _ _ _ (codes " ") (line (decimal (number_of c.args.limit))) c.in_ok-put_all-3.ensures.ok
+    (front_first _ _ (decimal (number_of c.args.limit)) (10 ∷ []) (is_front_decimal _ _ c.number.result (number_of c.args.limit) c.number.ensures c.in_err-put_natural.ensures.err)))))
+
+pub returns-in_err-put_all-4-clause-err : goal.returns-in_err-put_all-4-clause-err
+returns-in_err-put_all-4-clause-err g c =
+    on_err c.from_residual-in_err-put_all-4.result _
+    (front_more _ _ _ (codes "limit: ") (name_of c.args.limit ++ (codes " " ++ line (decimal (number_of c.args.limit)))) c.in_ok-put_all.ensures.ok
+    (front_more _ _ _ (name_of c.args.limit) (codes " " ++ line (decimal (number_of c.args.limit))) (is_written _ _ c.as_bytes.result.now (name_of c.args.limit) (c.as_bytes.ensures.value ∙ c.name.ensures) c.in_ok-put_all-2.ensures.ok)
+    (front_more _ _ _ (codes " ") (line (decimal (number_of c.args.limit))) c.in_ok-put_all-3.ensures.ok
+    (front_more _ _ _ (decimal (number_of c.args.limit)) (10 ∷ []) (is_decimal _ _ c.number.result (number_of c.args.limit) c.number.ensures c.in_ok-put_natural.ensures.ok) c.in_err-put_all-4.ensures.err))))

@@ -1,4 +1,4 @@
-use Rattle.std.proofs.Common.{◌≡◌, ap, ◌∙◌, map}
+use Rattle.std.proofs.Common.{ap, ◌∙◌, map}
 use Rattle.wp_gen.specs.Facts.{formula_of}
 use Rattle.wp_gen.proofs.Walking.{map_push, ranges_goes}
 use Rattle.wp_gen.proofs.condition.push_ranges.Goals as goal

@@ -1,9 +1,7 @@
-use Rattle.std.proofs.Common.{◌≡◌, ℕ, List, [], ◌∷◌, ◌++◌, length, arith, subst, sym, ap, ◌∙◌}
-use Rattle.c_syntax.specs.declared.tree.Stmt.{Stmt}
+use Rattle.std.proofs.Common.{ℕ, List, [], ◌∷◌, ◌++◌, length, arith, subst, sym, ap, ◌∙◌}
 use Rattle.c_syntax.specs.Tree.{Stm, stm, stms, bool_exp}
 use Rattle.terms.specs.Formula.{Numbered}
-use Rattle.wp_gen.specs.Facts.{Joins}
-use Rattle.wp_gen.specs.Translation.{facts_behind, fact_behind}
+use Rattle.wp_gen.specs.Translation.{fact_behind}
 use Rattle.wp_gen.proofs.Joining.{numbered_if, shown_if, stmts_numbered, within_push}
 use Rattle.wp_gen.proofs.number.+behind.Goals as goal
 

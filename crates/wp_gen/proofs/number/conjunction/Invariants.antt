@@ -1,4 +1,4 @@
-use Rattle.std.proofs.Common.{ℕ, ◌<◌, ◌≤◌, length, drop}
+use Rattle.std.proofs.Common.{◌<◌, ◌≤◌, length, drop}
 use Rattle.wp_gen.specs.Facts.{Folds}
 use Rattle.wp_gen.proofs.number.conjunction.Given as goal
 

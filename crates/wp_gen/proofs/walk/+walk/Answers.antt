@@ -1,10 +1,10 @@
-use Rattle.std.proofs.Common.{◌≡◌, ℕ, List, [], ◌∷◌, ◌++◌, map, arith, subst, sym, ap, ◌∙◌, rules}
+use Rattle.std.proofs.Common.{◌≡◌, List, [], ◌∷◌, ◌++◌, map, arith, subst, sym, ap, ◌∙◌}
 use Rattle.std.proofs.lemmas.Grind.{common_steps}
 use Rattle.c_syntax.specs.declared.tree.Stmt.{Stmt}
-use Rattle.c_syntax.specs.Tree.{Stm, Stms, stm, stms, bool_exp}
+use Rattle.c_syntax.specs.Tree.{Stm, stm, stms, bool_exp}
 use Rattle.terms.specs.Formula.{Formula}
 use Rattle.wp_gen.specs.Translation.{test, negation}
-use Rattle.wp_gen.specs.Conditions.{Check, checks, checks_of}
+use Rattle.wp_gen.specs.Conditions.{checks, checks_of}
 use Rattle.wp_gen.specs.Facts.{formula_of, check_of}
 use Rattle.wp_gen.proofs.Joining.{shown_if}
 use Rattle.wp_gen.proofs.Walking.{map_push, if_found}

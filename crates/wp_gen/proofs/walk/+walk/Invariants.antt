@@ -1,4 +1,4 @@
-use Rattle.std.proofs.Common.{◌≡◌, ◌≤◌, ◌++◌, List, map, take, drop, length}
+use Rattle.std.proofs.Common.{◌≡◌, ◌≤◌, ◌++◌, map, take, drop, length}
 use Rattle.c_syntax.specs.Tree.{stms}
 use Rattle.wp_gen.specs.Conditions.{checks}
 use Rattle.wp_gen.specs.Facts.{formula_of, check_of}
