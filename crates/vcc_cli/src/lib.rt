@@ -11,4 +11,6 @@ pub mod report;
 pub use main_call::vcc_main;
 
 #[cfg(test)]
+mod condition_tests;
+#[cfg(test)]
 mod tests;
