@@ -6,8 +6,8 @@ use std::process::ExitCode;
 use std::rt::Env;
 use std::{env, io};
 use vcc_base::file::{FileStore, OutSink};
-use vcc_base::sink::{Sink, SinkFault};
-use vcc_base::whole::put_all;
+use vcc_cli::refusal::Refusal;
+use vcc_cli::report::report;
 use vcc_cli::vcc_main;
 
 /// The words behind the program's name.
@@ -19,20 +19,14 @@ fn words(rt: &(impl Env + AllocGlobal)) -> io::Result<Vec<String>> {
     Ok(words)
 }
 
-/// The line and the status of a run that has no memory for its words.
-fn no_memory<O: Sink>(out: &mut O) -> ExitCode {
-    match put_all(out, b"out of memory\n") {
-        Err(SinkFault::Failed) => ExitCode::from(7),
-        _ => ExitCode::from(8),
-    }
-}
-
 fn main(rt: HostRuntime) -> ExitCode {
     let alloc: Global = rt.alloc();
     let mut out = OutSink::new(&rt);
     let words = match words(&rt) {
         Ok(words) => words,
-        Err(error) if error.kind() == io::ErrorKind::OutOfMemory => return no_memory(&mut out),
+        Err(error) if error.kind() == io::ErrorKind::OutOfMemory => {
+            return ExitCode::from(report(&mut out, Err(Refusal::OutOfMemory)));
+        }
         // A word that isn't UTF-8 makes no command, and neither do no words.
         Err(_) => Vec::new(alloc),
     };
