@@ -1,7 +1,7 @@
 -- The reference machine. From CAV 2010: threads that take turns, one item at a time, on one heap. Own: what an event is, and which choices it carries.
 use Rattle.std.specs.Prelude.{ℕ, ℤ, ◌==◌, Bool, if◌then◌else◌, List, [], ◌∷◌, ◌++◌}
 use Rattle.object_types.specs.Heap.{Heap}
-use Rattle.c_syntax.specs.Tree.{Stm, Stms, Assert, If, Empty, More, Prog}
+use Rattle.first_form.specs.Tree.{Stm, Stms, Assert, If, Empty, More, Prog}
 use Rattle.ref_machine.specs.declared.CheckKind.{CheckKind}
 use Rattle.ref_machine.specs.declared.CheckKind.TheVariants as kinds
 use Rattle.ref_machine.specs.Value.{holds}

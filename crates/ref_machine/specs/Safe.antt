@@ -1,6 +1,6 @@
 -- When a program is safe. From CAV 2010; so far, that no check fails.
 use Rattle.std.specs.Prelude.{◌≡◌, ℕ, ℤ, List, [], ◌∷◌, length, All, IsTrue}
-use Rattle.c_syntax.specs.Tree.{Prog, Clause}
+use Rattle.first_form.specs.Tree.{Prog, Clause}
 use Rattle.ref_machine.specs.Value.{IsInt, holds}
 use Rattle.ref_machine.specs.Machine.{State, Frame, Thread, Event, Answer, NotEnabled, Fault, Next, code_of, step, run}
 

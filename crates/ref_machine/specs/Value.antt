@@ -1,10 +1,10 @@
 -- The values of operands and tests. From ISO/IEC 9899 6.5.9, 6.5.13 and 6.5.14, for operands that keep their mathematical value.
 use Rattle.std.specs.Prelude.{ℕ, ℤ, pos, negsuc, Bool, true, false, not, ◌&&◌, ◌||◌, ◌==◌, ◌≤ℤ◌, List, slice_index_or}
-use Rattle.c_syntax.specs.declared.tree.Operand.{Operand}
-use Rattle.c_syntax.specs.declared.tree.Operand.TheVariants.{Parameter, Number}
-use Rattle.c_syntax.specs.declared.tree.Comparison.{Comparison}
-use Rattle.c_syntax.specs.declared.tree.Comparison.TheVariants.{Equal, NotEqual}
-use Rattle.c_syntax.specs.Tree.{BoolExp, Compare, Not, Group, And, Or}
+use Rattle.first_form.specs.declared.tree.Operand.{Operand}
+use Rattle.first_form.specs.declared.tree.Operand.TheVariants.{Parameter, Number}
+use Rattle.first_form.specs.declared.tree.Comparison.{Comparison}
+use Rattle.first_form.specs.declared.tree.Comparison.TheVariants.{Equal, NotEqual}
+use Rattle.first_form.specs.Tree.{BoolExp, Compare, Not, Group, And, Or}
 
 -- the range of `int`, which has 32 bits
 abbrev pub least_int : ℤ

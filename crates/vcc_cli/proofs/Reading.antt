@@ -1,7 +1,7 @@
 -- What the reads of a check give.
 use Rattle.std.proofs.Common.{◌≡◌, inl, inr, ℕ, List, Result, Err, refl, subst}
-use Rattle.c_syntax.specs.Tree.{Prog}
-use Rattle.c_syntax.specs.Reads.{IsFirstForm}
+use Rattle.first_form.specs.Tree.{Prog}
+use Rattle.first_form.specs.Reads.{IsFirstForm}
 use Rattle.wp_gen.specs.Conditions.{checks_of_program}
 use Rattle.wp_gen.specs.Law.{ConditionsMeanSafe}
 use Rattle.vcc_base.specs.Maps.{Map}

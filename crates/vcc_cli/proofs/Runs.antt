@@ -1,8 +1,8 @@
 -- From a run's answer to its meaning, and from acceptance to the answer.
 use Rattle.std.specs.Prelude.{codes}
 use Rattle.std.proofs.Common.{◌≡◌, ◌⊎◌, inl, inr, ℕ, suc, ◌+◌, ◌<◌, ◌≤◌, List, [], ◌∷◌, length, Option, Some, IsNone, Result, Ok, Err, refl, ap, sym, ◌∙◌, subst, arith}
-use Rattle.c_syntax.specs.Tree.{Prog}
-use Rattle.c_syntax.specs.Reads.{IsFirstForm}
+use Rattle.first_form.specs.Tree.{Prog}
+use Rattle.first_form.specs.Reads.{IsFirstForm}
 use Rattle.cert_format.specs.declared.certificate.Step.{Step}
 use Rattle.cert_format.specs.Text.{IsCertText}
 use Rattle.wp_gen.specs.Conditions.{Check, checks_of_program}

@@ -1,7 +1,7 @@
 -- What the answers of `check` mean.
 use Rattle.std.specs.Prelude.{◌≡◌, ◌≢◌, ◌⊎◌, ℕ, ◌+◌, ◌<◌, ◌≤◌, List, [], ◌∷◌, length, Some, IsNone, Result, Ok, Err}
-use Rattle.c_syntax.specs.Tree.{Prog}
-use Rattle.c_syntax.specs.Reads.{Reads, IsFirstForm}
+use Rattle.first_form.specs.Tree.{Prog}
+use Rattle.first_form.specs.Reads.{Reads, IsFirstForm}
 use Rattle.ref_machine.specs.Safe.{Safe}
 use Rattle.cert_format.specs.declared.certificate.Step.{Step}
 use Rattle.cert_format.specs.Text.{IsCertText}

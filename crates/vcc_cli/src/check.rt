@@ -2,7 +2,7 @@
 
 ghost use Rattle.std.specs.Prelude.{◌≡◌, ◌<◌, ◌≤◌, Ok, Err, Some, Result, MatchResult};
 ghost use Rattle.vcc_base.specs.Maps.{Map};
-ghost use Rattle.c_syntax.specs.Tree.{program as read_as};
+ghost use Rattle.first_form.specs.Tree.{program as read_as};
 ghost use Rattle.wp_gen.specs.Conditions.{checks_of_program};
 ghost use Rattle.vcc_cli.specs.Accepts.{AllValid};
 ghost use Rattle.vcc_cli.specs.Answer.{HoldsWithin, IsCertAnswer, IsCheckAnswer, IsSafeAnswer, IsUnread};
@@ -10,10 +10,10 @@ ghost use Rattle.vcc_cli.specs.Faults.{IsReadFault};
 
 use crate::judge::{Verdict, judge_blocks};
 use crate::refusal::Refusal;
-use c_reader::read_source;
-use c_syntax::fault::SourceFault;
-use c_syntax::tree::Program;
 use cert_format::decode::{CertFault, decode};
+use first_form::fault::SourceFault;
+use first_form::tree::Program;
+use first_reader::read_source;
 use std::alloc::Global;
 use vcc_base::limit::Limit;
 use vcc_base::store::Store;

@@ -1,9 +1,9 @@
 //! Sources, each with the terms of its conditions or its refusal. The expected texts were made by another program, written
 //! from the grammar, the translation and the numbering of docs/LANGUAGE.md and docs/CONDITIONS.md alone.
 
-use c_reader::read_source;
-use c_syntax::fault::SourceFault;
-use c_syntax::tree::Program;
+use first_form::fault::SourceFault;
+use first_form::tree::Program;
+use first_reader::read_source;
 use std::alloc::{AllocError, Global};
 use std::fmt::Write;
 use std::test::Fail;

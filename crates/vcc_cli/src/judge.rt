@@ -1,7 +1,7 @@
 //! Judging a program by a certificate.
 
 ghost use Rattle.std.specs.Prelude.{◌≡◌, ◌↔◌, ℕ, length, IsTrue, IfOk, Ok, map};
-ghost use Rattle.c_syntax.specs.Tree.{program as read_as};
+ghost use Rattle.first_form.specs.Tree.{program as read_as};
 ghost use Rattle.wp_gen.specs.Facts.{check_of};
 ghost use Rattle.wp_gen.specs.Conditions as conditions;
 ghost use Rattle.wp_gen.specs.Law.{IsValid};
@@ -10,8 +10,8 @@ ghost use Rattle.vcc_cli.specs.Answer.{AreJudged, FirstNot};
 ghost use Rattle.vcc_cli.specs.Verdicts.{IsVerdict};
 
 use crate::refusal::Refusal;
-use c_syntax::tree::Program;
 use cert_format::certificate::Refutation;
+use first_form::tree::Program;
 use refutation_check::check_one;
 use std::alloc::{AllocError, Global};
 use wp_gen::condition::{checks, condition_of};

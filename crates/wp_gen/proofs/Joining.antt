@@ -6,10 +6,10 @@ use Rattle.terms.specs.declared.term.Term.{Term}
 use Rattle.terms.specs.declared.term.Kind.TheVariants as k
 use Rattle.terms.specs.Formula.{Formula, Numbered, Interns, term}
 use Rattle.terms.proofs.Numbering.{numbered_binary}
-use Rattle.c_syntax.specs.Tree as t
-use Rattle.c_syntax.specs.declared.tree.Stmt as s
-use Rattle.c_syntax.specs.declared.tree.Test as e
-use Rattle.c_syntax.specs.declared.token.Span.{Span}
+use Rattle.first_form.specs.Tree as t
+use Rattle.first_form.specs.declared.tree.Stmt as s
+use Rattle.first_form.specs.declared.tree.Test as e
+use Rattle.first_form.specs.declared.token.Span.{Span}
 use mathlib.Core.Former.{Count}
 use Rattle.std.proofs.Common.{Vec, Global}
 use Rattle.wp_gen.specs.Translation.{all_of, test, negation, implication, good_entry, fact_behind, facts_behind}

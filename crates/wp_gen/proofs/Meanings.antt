@@ -8,11 +8,11 @@ use Rattle.terms.specs.declared.term.Kind.TheVariants as k
 use Rattle.terms.specs.Formula.{Formula, leaf, unary, binary, term, Stands}
 use Rattle.terms.specs.Meaning.{Env, Value, IntValue, truth, number as int_of, Means, IsValuation}
 use Rattle.terms.proofs.Valuations.{decide}
-use Rattle.c_syntax.specs.declared.tree.Operand.{Operand}
-use Rattle.c_syntax.specs.declared.tree.Operand.TheVariants as o
-use Rattle.c_syntax.specs.declared.tree.Comparison.{Comparison}
-use Rattle.c_syntax.specs.declared.tree.Comparison.TheVariants as c
-use Rattle.c_syntax.specs.Tree as t
+use Rattle.first_form.specs.declared.tree.Operand.{Operand}
+use Rattle.first_form.specs.declared.tree.Operand.TheVariants as o
+use Rattle.first_form.specs.declared.tree.Comparison.{Comparison}
+use Rattle.first_form.specs.declared.tree.Comparison.TheVariants as c
+use Rattle.first_form.specs.Tree as t
 use Rattle.ref_machine.specs.Value.{operand_value, same_int, comparison_value, holds}
 use Rattle.wp_gen.specs.Translation.{number, parameter, equal, at_most, negation, conjunction, disjunction, operand, comparison, test, all_of, good_entry}
 use Rattle.wp_gen.specs.Conditions.{Check, condition}

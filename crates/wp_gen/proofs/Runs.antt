@@ -1,7 +1,7 @@
 -- The machine's steps, where every function that is being run runs without a fault.
 use Rattle.std.proofs.Common.{◌≡◌, ℕ, suc, ◌+◌, ◌==◌, ℤ, pos, ◌≤ℤ◌, List, [], ◌∷◌, ◌++◌, map, length, All, get_or, Bool, true, false, cond, IsTrue, refl, ap, sym, ◌∙◌, subst, arith}
 use Rattle.std.proofs.lemmas.List.Elements.{All-head, All-tail}
-use Rattle.c_syntax.specs.Tree as t
+use Rattle.first_form.specs.Tree as t
 use Rattle.ref_machine.specs.Value.{IsInt, least_int, greatest_int, holds}
 use Rattle.ref_machine.specs.Machine.{Frame, Thread, State, Event, Turn, Misfit, Fails, Goes, code_of, with_code, frame_turn, thread_turn, frames_of, with_frames, answer_of, step, left_by, run}
 use Rattle.ref_machine.specs.Safe.{IsNoFault}

@@ -1,7 +1,7 @@
 -- The code's walk of a program's text.
 use Rattle.std.proofs.Common.{◌≡◌, ℕ, suc, ◌+◌, ◌-◌, ◌<◌, List, [], ◌∷◌, ◌++◌, map, take, drop, length, get_or, refl, ap, sym, ◌∙◌, append_assoc, arith, add-one, drop-cons}
-use Rattle.c_syntax.specs.declared.tree.Stmt as s
-use Rattle.c_syntax.specs.Tree as t
+use Rattle.first_form.specs.declared.tree.Stmt as s
+use Rattle.first_form.specs.Tree as t
 use Rattle.terms.specs.Formula.{Formula}
 use Rattle.wp_gen.specs.Translation.{test, negation, fact_behind, ranges, at_least_least, at_most_greatest}
 use Rattle.wp_gen.specs.Conditions.{Check, checks, checks_of}

@@ -1,7 +1,7 @@
 -- Where the checks of statements are valid and the facts so far hold, the statements run without a fault.
 use Rattle.std.proofs.Common.{◌≡◌, ℕ, suc, ℤ, List, [], ◌∷◌, ◌++◌, map, Some, slice_get, Bool, true, false, not, refl, sym, ◌∙◌, subst}
 use Rattle.terms.specs.Formula.{Formula}
-use Rattle.c_syntax.specs.Tree as t
+use Rattle.first_form.specs.Tree as t
 use Rattle.ref_machine.specs.Value.{holds}
 use Rattle.wp_gen.specs.Translation.{test, negation, all_of, fact_behind, facts_behind}
 use Rattle.wp_gen.specs.Conditions.{Check, condition, checks, checks_of}

@@ -1,6 +1,6 @@
 -- The conditions of a program, one for each check, in the order of the text. From VCC: a function's text is walked once, with a list of facts.
 use Rattle.std.specs.Prelude.{ℕ, List, [], ◌∷◌, ◌++◌, length, map}
-use Rattle.c_syntax.specs.Tree as t
+use Rattle.first_form.specs.Tree as t
 use Rattle.terms.specs.Formula.{Formula}
 use Rattle.wp_gen.specs.Translation.{test, negation, implication, all_of, good_entry, ranges, fact_behind}
 

@@ -1,6 +1,6 @@
 -- The formulas that the code's facts stand for.
 use Rattle.std.specs.Prelude.{◌≡◌, ℕ, pos, List, [], ◌∷◌, map}
-use Rattle.c_syntax.specs.Tree.{bool_exp, stm}
+use Rattle.first_form.specs.Tree.{bool_exp, stm}
 use Rattle.terms.specs.declared.term.Term.{Term}
 use Rattle.terms.specs.declared.term.Kind.TheVariants.{And}
 use Rattle.terms.specs.Formula.{Formula, Numbered, Interns, term}

@@ -1,6 +1,6 @@
 -- What the conditions mean.
 use Rattle.std.specs.Prelude.{◌≡◌, ℕ, List, Some, slice_get}
-use Rattle.c_syntax.specs.Tree.{Prog}
+use Rattle.first_form.specs.Tree.{Prog}
 use Rattle.terms.specs.declared.term.Term.{Term}
 use Rattle.terms.specs.TermList.{IsTermList}
 use Rattle.terms.specs.Formula.{Formula, Stands}

@@ -1,10 +1,10 @@
 -- Tests, ranges and facts as formulas. From VCC: annotations become formulas of first-order logic over integers and heaps.
 use Rattle.std.specs.Prelude.{ℕ, zero, suc, ◌+◌, ℤ, pos, List, [], ◌∷◌}
-use Rattle.c_syntax.specs.declared.tree.Operand.{Operand}
-use Rattle.c_syntax.specs.declared.tree.Operand.TheVariants as o
-use Rattle.c_syntax.specs.declared.tree.Comparison.{Comparison}
-use Rattle.c_syntax.specs.declared.tree.Comparison.TheVariants as c
-use Rattle.c_syntax.specs.Tree as t
+use Rattle.first_form.specs.declared.tree.Operand.{Operand}
+use Rattle.first_form.specs.declared.tree.Operand.TheVariants as o
+use Rattle.first_form.specs.declared.tree.Comparison.{Comparison}
+use Rattle.first_form.specs.declared.tree.Comparison.TheVariants as c
+use Rattle.first_form.specs.Tree as t
 use Rattle.terms.specs.declared.term.Kind.TheVariants as k
 use Rattle.terms.specs.Formula.{Formula, leaf, unary, binary}
 use Rattle.ref_machine.specs.Value.{least_int, greatest_int}

@@ -2,14 +2,14 @@
 
 ghost use Rattle.std.specs.Prelude.{◌≡◌, ◌+◌, ◌<◌, [], ◌∷◌, ◌++◌, length, map, IfOk, OnOk};
 ghost use Rattle.terms.specs.Formula.{Numbered};
-ghost use Rattle.c_syntax.specs.Tree.{program as read_as, clause};
+ghost use Rattle.first_form.specs.Tree.{program as read_as, clause};
 ghost use Rattle.wp_gen.specs.Translation as spec;
 ghost use Rattle.wp_gen.specs.Conditions as conditions;
 ghost use Rattle.wp_gen.specs.Facts.{formula_of, check_of};
 
 use crate::number::{good_entry, intern, joined, test};
 use crate::walk::{Check, Fact, walk};
-use c_syntax::tree::{Clause, Program};
+use first_form::tree::{Clause, Program};
 use std::alloc::{AllocError, Global};
 use terms::list::TermList;
 use terms::term::Kind;

@@ -3,12 +3,12 @@
 ghost use Rattle.std.specs.Prelude.{◌≡◌, ℕ, ℤ, pos, ◌<◌, ◌≤◌, List, [], ◌∷◌, ◌++◌, length, map, All, IfOk, OnOk, OnErr, FitsSigned};
 ghost use Rattle.std.specs.Int.{w128};
 ghost use Rattle.terms.specs.Formula.{Interns, Numbered, leaf, term};
-ghost use Rattle.c_syntax.specs.Tree.{bool_exp, stm, stms};
+ghost use Rattle.first_form.specs.Tree.{bool_exp, stm, stms};
 ghost use Rattle.wp_gen.specs.Translation as spec;
 ghost use Rattle.wp_gen.specs.Facts.{formula_of, Folds, Joins};
 
 use crate::walk::Fact;
-use c_syntax::tree::{Comparison, Operand, Stmt, Test};
+use first_form::tree::{Comparison, Operand, Stmt, Test};
 use std::alloc::{AllocError, Global};
 use terms::list::TermList;
 use terms::term::{Args, Kind, Term};

@@ -1,8 +1,8 @@
 //! Programs, and their conditions.
 
 use crate::condition::{Condition, checks, condition_of};
-use c_syntax::token::Span;
-use c_syntax::tree::{Clause, Comparison, Operand, Program, Stmt, Test};
+use first_form::token::Span;
+use first_form::tree::{Clause, Comparison, Operand, Program, Stmt, Test};
 use std::alloc::{AllocError, Global};
 use std::fmt::Write;
 use terms::term::{Kind, Term};

@@ -1,12 +1,12 @@
 //! The walk of a program's text, with a list of facts.
 
 ghost use Rattle.std.specs.Prelude.{◌≡◌, ◌+◌, ◌^◌, ◌<◌, ◌≤◌, [], ◌∷◌, ◌++◌, length, map, take, IfOk, OnOk, OnErr};
-ghost use Rattle.c_syntax.specs.Tree.{program, stm, stms};
+ghost use Rattle.first_form.specs.Tree.{program, stm, stms};
 ghost use Rattle.wp_gen.specs.Translation as spec;
 ghost use Rattle.wp_gen.specs.Conditions as conditions;
 ghost use Rattle.wp_gen.specs.Facts.{formula_of, check_of};
 
-use c_syntax::tree::{Program, Stmt, Test};
+use first_form::tree::{Program, Stmt, Test};
 use std::alloc::{AllocError, Global};
 
 /// Something that holds on the way to a check.

@@ -1,7 +1,7 @@
 use Rattle.std.proofs.Common.{◌∙◌, Err, subst}
-use Rattle.c_syntax.specs.Tree.{program as read_as}
-use Rattle.c_syntax.specs.Reads.{IsOrMemory}
-use Rattle.c_syntax.specs.declared.fault.SourceFault.{SourceFault}
+use Rattle.first_form.specs.Tree.{program as read_as}
+use Rattle.first_form.specs.Reads.{IsOrMemory}
+use Rattle.first_form.specs.declared.fault.SourceFault.{SourceFault}
 use Rattle.vcc_cli.proofs.Reading.{program_answer, unbuilt_answer, safe_answer}
 use Rattle.vcc_cli.proofs.check.check.Goals as goal
 

@@ -1,5 +1,5 @@
 use Rattle.std.proofs.Common.{◌≡◌, ◌++◌, map, take}
-use Rattle.c_syntax.specs.Tree.{clause}
+use Rattle.first_form.specs.Tree.{clause}
 use Rattle.wp_gen.specs.Translation.{test}
 use Rattle.wp_gen.specs.Facts.{formula_of}
 use Rattle.wp_gen.proofs.condition.push_clauses.Given as goal

@@ -1,5 +1,5 @@
 use Rattle.std.proofs.Common.{ℕ, List, [], ◌∷◌, ◌++◌, length, arith, subst, sym, ap, ◌∙◌}
-use Rattle.c_syntax.specs.Tree.{Stm, stm, stms, bool_exp}
+use Rattle.first_form.specs.Tree.{Stm, stm, stms, bool_exp}
 use Rattle.terms.specs.Formula.{Numbered}
 use Rattle.wp_gen.specs.Translation.{fact_behind}
 use Rattle.wp_gen.proofs.Joining.{numbered_if, shown_if, stmts_numbered, within_push}

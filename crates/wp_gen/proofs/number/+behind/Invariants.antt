@@ -1,5 +1,5 @@
 use Rattle.std.proofs.Common.{◌≡◌, ℕ, ◌<◌, ◌≤◌, List, ◌∷◌, length, take, All}
-use Rattle.c_syntax.specs.Tree.{stms}
+use Rattle.first_form.specs.Tree.{stms}
 use Rattle.wp_gen.specs.Translation.{facts_behind}
 use Rattle.wp_gen.specs.Facts.{ListNumbered}
 use Rattle.wp_gen.proofs.number.+behind.Given as goal

@@ -1,7 +1,7 @@
 use Rattle.std.proofs.Common.{◌≡◌, List, [], ◌∷◌, ◌++◌, map, arith, subst, sym, ap, ◌∙◌}
 use Rattle.std.proofs.lemmas.Grind.{common_steps}
-use Rattle.c_syntax.specs.declared.tree.Stmt.{Stmt}
-use Rattle.c_syntax.specs.Tree.{Stm, stm, stms, bool_exp}
+use Rattle.first_form.specs.declared.tree.Stmt.{Stmt}
+use Rattle.first_form.specs.Tree.{Stm, stm, stms, bool_exp}
 use Rattle.terms.specs.Formula.{Formula}
 use Rattle.wp_gen.specs.Translation.{test, negation}
 use Rattle.wp_gen.specs.Conditions.{checks, checks_of}

@@ -1,5 +1,5 @@
 use Rattle.std.proofs.Common.{◌≡◌, ◌≤◌, ◌++◌, map, take, drop, length}
-use Rattle.c_syntax.specs.Tree.{stms}
+use Rattle.first_form.specs.Tree.{stms}
 use Rattle.wp_gen.specs.Conditions.{checks}
 use Rattle.wp_gen.specs.Facts.{formula_of, check_of}
 use Rattle.wp_gen.proofs.walk.+walk.Given as goal

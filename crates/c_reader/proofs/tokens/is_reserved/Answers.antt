@@ -1,6 +1,0 @@
-use Rattle.c_reader.specs.Reading.{is_reserved}
-use Rattle.c_reader.proofs.tokens.is_reserved.Goals as goal
-
-pub returns : goal.returns
-unfolding is_reserved
-returns c = c.is_among.ensures
