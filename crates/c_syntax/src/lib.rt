@@ -1,0 +1,5 @@
+//! Sources in the whole language: their tokens.
+#![tactic(auto)]
+
+pub mod fault;
+pub mod token;
