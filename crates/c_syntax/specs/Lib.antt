@@ -2,3 +2,9 @@ pub mod Words
 pub mod Numbers
 pub mod Tokens
 pub mod Lexing
+pub mod Expressions
+pub mod Ghosts
+pub mod Statements
+pub mod Items
+pub mod Classes
+pub mod Grammar

@@ -112,7 +112,7 @@ module _ (g : Grammar) where
         ∙ on_ok (read g R room l ts) b d.2 d.1 _ (complete l good ts b d.2 d.1 d.3 (omega arith))
         ∙ links_complete t l f good bs n (f left b) (suc (max k d.2)) d.1 a h rest d.4 le (omega arith)
 
-    climbs_complete : {A B C : Type 0} (s : PartOf g B) (c : ℕ) (m : PartOf g (A → A)) (l : PartOf g (A → C)) → ClimbOk g s c m l → (fs : List (A → A)) (n : ℕ) (left : A) (k : ℕ) (ts : List g.T) (a : C) (h : ℕ) (rest : List g.T) → Climbs g S c m l left k ts fs a h rest → h ≤ suc room → suc room ≤ n + k → 1 ≤ k
+    climbs_complete : {A B C : Type 0} (s : PartOf g B) (c : ℕ) (m : PartOf g (g.T → A → A)) (l : PartOf g (g.T → A → C)) → ClimbOk g s c m l → (fs : List (g.T → A → A)) (n : ℕ) (left : A) (k : ℕ) (ts : List g.T) (a : C) (h : ℕ) (rest : List g.T) → Climbs g S c m l left k ts fs a h rest → h ≤ suc room → suc room ≤ n + k → 1 ≤ k
         → climbs g R room n c m l left k ts ≡ ok a h rest
     unfolding climbs
     climbs_complete s c m l o fs zero left k ts a h rest d le few some = absurd (omega (arith, climbs_low g S least c m l fs left k ts a h rest d))
@@ -120,14 +120,14 @@ module _ (g : Grammar) where
         on_ok (take g c ts) d.0 0 d.1 _ (take_complete c ts d.0 d.1 d.4 d.5)
         ∙ cond_false (has (first g m) (next g d.1)) _ _ d.6
         ∙ on_ok (read g R room l d.1) d.2 d.3 rest _ (complete l o.fine_l d.1 d.2 d.3 rest d.7 (omega (arith, d.9)))
-        ∙ ok_is a (d.2 left) h (suc (max k d.3)) rest d.8 d.9
+        ∙ ok_is a (d.2 d.0 left) h (suc (max k d.3)) rest d.8 d.9
     climbs_complete s c m l o (f ∷ fs) (suc n) left k ts a h rest d le few some =
-        let grown = climbs_low g S least c m l fs (f left) (suc (max k d.3)) d.2 a h rest d.8 in
+        let grown = climbs_low g S least c m l fs (f d.0 left) (suc (max k d.3)) d.2 a h rest d.8 in
         on_ok (take g c ts) d.0 0 d.1 _ (take_complete c ts d.0 d.1 d.4 d.5)
         ∙ cond_true (has (first g m) (next g d.1)) _ _ d.6
         ∙ cond_true (nat_le (suc (max k 1)) room) _ _ (true_le _ _ (omega arith))
         ∙ on_ok (read g R room m d.1) f d.3 d.2 _ (complete m o.fine_m d.1 f d.3 d.2 d.7 (omega arith))
-        ∙ climbs_complete s c m l o fs n (f left) (suc (max k d.3)) d.2 a h rest d.8 le (omega arith) (omega arith)
+        ∙ climbs_complete s c m l o fs n (f d.0 left) (suc (max k d.3)) d.2 a h rest d.8 le (omega arith) (omega arith)
 
     pub complete_rule : {A : Type 0} (r : RuleOf g A) → is_predictive_rule g r ≡ true → (ts : List g.T) (a : A) (h : ℕ) (rest : List g.T) → DerivesRule g S r ts a h rest → h ≤ suc room → read_rule g R room r ts ≡ ok a h rest
     unfolding read_rule DerivesRule is_predictive_rule

@@ -47,17 +47,17 @@ module _ (g : Grammar) where
     Links {B = B} t l f left k ts (b ∷ bs) a h rest = ((t left && has (first g l) (next g ts)) ≡ true) × (mid : List g.T) × (i : ℕ) × Derives l ts b i mid × Links t l f (f left b) (suc (max k i)) mid bs a h rest
 
     -- links up to the first of the second kind
-    abbrev pub Climbs : {A C : Type 0} → ℕ → PartOf g (A → A) → PartOf g (A → C) → A → ℕ → List g.T → List (A → A) → C → ℕ → List g.T → Type 0
+    abbrev pub Climbs : {A C : Type 0} → ℕ → PartOf g (g.T → A → A) → PartOf g (g.T → A → C) → A → ℕ → List g.T → List (g.T → A → A) → C → ℕ → List g.T → Type 0
     Climbs {A} {C} c m l left k ts [] a h rest =
-        (x : g.T) × (mid : List g.T) × (f : A → C) × (i : ℕ) × (ts ≡ x ∷ mid) × (g.class x ≡ c) × (has (first g m) (next g mid) ≡ false) × Derives l mid f i rest × (a ≡ f left) × (h ≡ suc (max k i))
+        (x : g.T) × (mid : List g.T) × (f : g.T → A → C) × (i : ℕ) × (ts ≡ x ∷ mid) × (g.class x ≡ c) × (has (first g m) (next g mid) ≡ false) × Derives l mid f i rest × (a ≡ f x left) × (h ≡ suc (max k i))
     Climbs c m l left k ts (f ∷ fs) a h rest =
-        (x : g.T) × (mid : List g.T) × (late : List g.T) × (i : ℕ) × (ts ≡ x ∷ mid) × (g.class x ≡ c) × (has (first g m) (next g mid) ≡ true) × Derives m mid f i late × Climbs c m l (f left) (suc (max k i)) late fs a h rest
+        (x : g.T) × (mid : List g.T) × (late : List g.T) × (i : ℕ) × (ts ≡ x ∷ mid) × (g.class x ≡ c) × (has (first g m) (next g mid) ≡ true) × Derives m mid f i late × Climbs c m l (f x left) (suc (max k i)) late fs a h rest
 
     unfoldable pub DerivesRule : {A : Type 0} → RuleOf g A → Phrases g A
     DerivesRule (form p) ts a h rest = (i : ℕ) × Derives p ts a i rest × (h ≡ suc i)
     DerivesRule (pick p q) ts a h rest = Choice (has (first_rule g p) (next g ts)) (DerivesRule p ts a h rest) (DerivesRule q ts a h rest)
     DerivesRule {A} (chain {B = B} s t l f) ts a h rest = (left : A) × (k : ℕ) × (mid : List g.T) × (bs : List B) × DerivesRule s ts left k mid × Links t l f left k mid bs a h rest
-    DerivesRule (climb {A = L} s c m l) ts a h rest = (left : L) × (k : ℕ) × (mid : List g.T) × (fs : List (L → L)) × Derives s ts left k mid × Climbs c m l left k mid fs a h rest
+    DerivesRule (climb {A = L} s c m l) ts a h rest = (left : L) × (k : ℕ) × (mid : List g.T) × (fs : List (g.T → L → L)) × Derives s ts left k mid × Climbs c m l left k mid fs a h rest
 
   -- derivations with no more than so many rules one within the other
   unfoldable pub Within : ℕ → (n : g.N) → Phrases g (g.V n)

@@ -51,7 +51,7 @@ module _ (g : Grammar) where
     pub flat_m : is_flat g m ≡ true
     pub flat_l : is_flat g l ≡ true
 
-  pub climb_ok : {A C : Type 0} (s : PartOf g A) (c : ℕ) (m : PartOf g (A → A)) (l : PartOf g (A → C)) → is_predictive_rule g (climb s c m l) ≡ true → ClimbOk s c m l
+  pub climb_ok : {A C : Type 0} (s : PartOf g A) (c : ℕ) (m : PartOf g (g.T → A → A)) (l : PartOf g (g.T → A → C)) → is_predictive_rule g (climb s c m l) ≡ true → ClimbOk s c m l
   unfolding is_predictive_rule
   climb_ok s c m l fine =
       let a = and_right (is_predictive g s) _ fine in

@@ -284,8 +284,8 @@ module _ (g : Grammar) where
     abbrev pub AnyLinks : {A B : Type 0} → (A → Bool) → PartOf g B → (A → B → A) → A → ℕ → Phrases g A
     AnyLinks {B = B} t l f left k ts a h rest = (bs : List B) × Links g (S g) t l f left k ts bs a h rest
 
-    abbrev pub AnyClimb : {A C : Type 0} → ℕ → PartOf g (A → A) → PartOf g (A → C) → A → ℕ → Phrases g C
-    AnyClimb {A} c m l left k ts a h rest = (fs : List (A → A)) × Climbs g (S g) c m l left k ts fs a h rest
+    abbrev pub AnyClimb : {A C : Type 0} → ℕ → PartOf g (g.T → A → A) → PartOf g (g.T → A → C) → A → ℕ → Phrases g C
+    AnyClimb {A} c m l left k ts a h rest = (fs : List (g.T → A → A)) × Climbs g (S g) c m l left k ts fs a h rest
 
     module _ {A B : Type 0} (t : A → Bool) (l : PartOf g B) (f : A → B → A) (fine : is_predictive g l ≡ true) (some : is_empty g l ≡ false) where
       and_false : (a b : Bool) → b ≡ false → (a && b) ≡ false
@@ -328,11 +328,11 @@ module _ (g : Grammar) where
             (b ∷ rest.0, (and_true (t left) _ may (part_takes g (S g) (phrase_opens g good) l fine some (m.text ++ ((x ∷ us) ++ (v.late ++ new))) b i ((x ∷ us) ++ (v.late ++ new)) d).0, (x ∷ us) ++ (v.late ++ new), i, d, rest.1));
       }
 
-    module _ {A B C : Type 0} (s : PartOf g B) (c : ℕ) (m : PartOf g (A → A)) (l : PartOf g (A → C)) (o : ClimbOk g s c m l) (short : Viable (Derives g (S g) l) (more g l) (low g l) []) where
+    module _ {A B C : Type 0} (s : PartOf g B) (c : ℕ) (m : PartOf g (g.T → A → A)) (l : PartOf g (g.T → A → C)) (o : ClimbOk g s c m l) (short : Viable (Derives g (S g) l) (more g l) (low g l) []) where
       pub climb_last : (left : A) (k : ℕ) (x : g.T) → g.class x ≡ c → (room : ℕ) (us : List g.T) → Viable (Derives g (S g) l) (more g l) room us → Viable (AnyClimb c m l left k) (more g l) (suc (max k room)) (x ∷ us)
       climb_last left k x is room us v = record {
         late = v.late;
-        value = v.value left;
+        value = v.value x left;
         high = suc (max k v.high);
         fits = omega (arith, v.fits);
         is = λ new free.
@@ -348,7 +348,7 @@ module _ (g : Grammar) where
       -- one more link, and then the end
       pub climb_one : (left : A) (k : ℕ) (x : g.T) → g.class x ≡ c → (room : ℕ) (us : List g.T) → Viable (Derives g (S g) m) (more g m) room us → Viable (AnyClimb c m l left k) (more g l) (suc (suc (max k 1))) (x ∷ us)
       climb_one left k x is room us v =
-          let e = climb_end (v.value left) (suc (max k v.high)) in
+          let e = climb_end (v.value x left) (suc (max k v.high)) in
           let one = flat_high g (S g) m o.flat_m (us ++ (v.late ++ (g.of_class c ∷ []))) v.value v.high (g.of_class c ∷ []) (v.is (g.of_class c ∷ []) (subst (λ y. has (more g m) y ≡ false) (sym o.real) o.stays_m)) in
           record {
             late = v.late ++ (g.of_class c ∷ e.late);
@@ -363,11 +363,11 @@ module _ (g : Grammar) where
                 (v.value ∷ r.0, (x, us ++ (v.late ++ (g.of_class c ∷ (e.late ++ new))), g.of_class c ∷ (e.late ++ new), v.high, refl, is, b.0, d, r.1));
           }
 
-      pub climb_stop : (left : A) (k : ℕ) (x : g.T) → g.class x ≡ c → (ts : List g.T) (f : A → A) (i : ℕ) (mid : List g.T) → (w : Moves g (Derives g (S g) m) (more g m) ts f i mid) → Viable (AnyClimb c m l left k) (more g l) (suc (suc (max k 1))) (x ∷ w.text)
+      pub climb_stop : (left : A) (k : ℕ) (x : g.T) → g.class x ≡ c → (ts : List g.T) (f : g.T → A → A) (i : ℕ) (mid : List g.T) → (w : Moves g (Derives g (S g) m) (more g m) ts f i mid) → Viable (AnyClimb c m l left k) (more g l) (suc (suc (max k 1))) (x ∷ w.text)
       climb_stop left k x is ts f i mid w = climb_one left k x is i w.text (record { late = []; value = f; high = i; fits = omega arith; is = λ new free. w.is new (inr free) })
 
-      pub climb_more : (left : A) (k : ℕ) (x : g.T) → g.class x ≡ c → (ts : List g.T) (f : A → A) (i : ℕ) (mid : List g.T) → (w : Moves g (Derives g (S g) m) (more g m) ts f i mid) → (room : ℕ) (y : g.T) (us : List g.T) → g.class y ≡ next g mid
-          → Viable (AnyClimb c m l (f left) (suc (max k i))) (more g l) room (y ∷ us) → Viable (AnyClimb c m l left k) (more g l) room (x ∷ (w.text ++ (y ∷ us)))
+      pub climb_more : (left : A) (k : ℕ) (x : g.T) → g.class x ≡ c → (ts : List g.T) (f : g.T → A → A) (i : ℕ) (mid : List g.T) → (w : Moves g (Derives g (S g) m) (more g m) ts f i mid) → (room : ℕ) (y : g.T) (us : List g.T) → g.class y ≡ next g mid
+          → Viable (AnyClimb c m l (f x left) (suc (max k i))) (more g l) room (y ∷ us) → Viable (AnyClimb c m l left k) (more g l) room (x ∷ (w.text ++ (y ∷ us)))
       climb_more left k x is ts f i mid w room y us same v = record {
         late = v.late;
         value = v.value;

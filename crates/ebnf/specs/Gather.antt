@@ -94,13 +94,13 @@ module _ (g : Grammar) where
       let k = max x.0 y.0 in
       (k, (d.0, d.1, d.2, up x.0 k (omega arith) l ts b d.2 d.1 x.1, links_wider g (Within g y.0) (Within g k) (within_wider y.0 k (omega arith)) t l f bs (f left b) (suc (max n d.2)) d.1 a h rest y.1))
 
-  gather_climbs : {A C : Type 0} (c : ℕ) (m : PartOf g (A → A)) (l : PartOf g (A → C)) (fs : List (A → A)) (left : A) (n : ℕ) (ts : List g.T) (a : C) (h : ℕ) (rest : List g.T) → Climbs g S c m l left n ts fs a h rest → (k : ℕ) × Climbs g (Within g k) c m l left n ts fs a h rest
+  gather_climbs : {A C : Type 0} (c : ℕ) (m : PartOf g (g.T → A → A)) (l : PartOf g (g.T → A → C)) (fs : List (g.T → A → A)) (left : A) (n : ℕ) (ts : List g.T) (a : C) (h : ℕ) (rest : List g.T) → Climbs g S c m l left n ts fs a h rest → (k : ℕ) × Climbs g (Within g k) c m l left n ts fs a h rest
   gather_climbs c m l [] left n ts a h rest d = let x = gather l d.1 d.2 d.3 rest d.7 in (x.0, (d.0, d.1, d.2, d.3, d.4, d.5, d.6, x.1, d.8, d.9))
   gather_climbs c m l (f ∷ fs) left n ts a h rest d =
       let x = gather m d.1 f d.3 d.2 d.7 in
-      let y = gather_climbs c m l fs (f left) (suc (max n d.3)) d.2 a h rest d.8 in
+      let y = gather_climbs c m l fs (f d.0 left) (suc (max n d.3)) d.2 a h rest d.8 in
       let k = max x.0 y.0 in
-      (k, (d.0, d.1, d.2, d.3, d.4, d.5, d.6, up x.0 k (omega arith) m d.1 f d.3 d.2 x.1, climbs_wider g (Within g y.0) (Within g k) (within_wider y.0 k (omega arith)) c m l fs (f left) (suc (max n d.3)) d.2 a h rest y.1))
+      (k, (d.0, d.1, d.2, d.3, d.4, d.5, d.6, up x.0 k (omega arith) m d.1 f d.3 d.2 x.1, climbs_wider g (Within g y.0) (Within g k) (within_wider y.0 k (omega arith)) c m l fs (f d.0 left) (suc (max n d.3)) d.2 a h rest y.1))
 
   pub gather_rule : {A : Type 0} (r : RuleOf g A) (ts : List g.T) (a : A) (h : ℕ) (rest : List g.T) → DerivesRule g S r ts a h rest → (k : ℕ) × DerivesRule g (Within g k) r ts a h rest
   unfolding DerivesRule

@@ -273,14 +273,14 @@ module _ (g : Grammar) where
               );
         }
 
-    abbrev ClimbsAs : {A C : Type 0} → ℕ → PartOf g (A → A) → PartOf g (A → C) → A → ℕ → List (A → A) → Phrases g C
+    abbrev ClimbsAs : {A C : Type 0} → ℕ → PartOf g (g.T → A → A) → PartOf g (g.T → A → C) → A → ℕ → List (g.T → A → A) → Phrases g C
     ClimbsAs c m l left k fs ts a h rest = Climbs g S c m l left k ts fs a h rest
 
-    climbs_next : {A C : Type 0} (c : ℕ) (m : PartOf g (A → A)) (l : PartOf g (A → C)) (fs : List (A → A)) (left : A) (k : ℕ) (ts : List g.T) (a : C) (h : ℕ) (rest : List g.T) → Climbs g S c m l left k ts fs a h rest → next g ts ≡ c
+    climbs_next : {A C : Type 0} (c : ℕ) (m : PartOf g (g.T → A → A)) (l : PartOf g (g.T → A → C)) (fs : List (g.T → A → A)) (left : A) (k : ℕ) (ts : List g.T) (a : C) (h : ℕ) (rest : List g.T) → Climbs g S c m l left k ts fs a h rest → next g ts ≡ c
     climbs_next c m l [] left k ts a h rest d = ap (next g) d.4 ∙ d.5
     climbs_next c m l (f ∷ fs) left k ts a h rest d = ap (next g) d.4 ∙ d.5
 
-    climbs_move : {A C : Type 0} (c : ℕ) (m : PartOf g (A → A)) (l : PartOf g (A → C)) → not (c == 0) ≡ true → is_predictive g m ≡ true → is_predictive g l ≡ true → is_empty g m ≡ false → is_empty g l ≡ false → (fs : List (A → A)) (left : A) (k : ℕ) (ts : List g.T) (a : C) (h : ℕ) (rest : List g.T)
+    climbs_move : {A C : Type 0} (c : ℕ) (m : PartOf g (g.T → A → A)) (l : PartOf g (g.T → A → C)) → not (c == 0) ≡ true → is_predictive g m ≡ true → is_predictive g l ≡ true → is_empty g m ≡ false → is_empty g l ≡ false → (fs : List (g.T → A → A)) (left : A) (k : ℕ) (ts : List g.T) (a : C) (h : ℕ) (rest : List g.T)
         → Climbs g S c m l left k ts fs a h rest → Moves (ClimbsAs c m l left k fs) (more g l) ts a h rest
     climbs_move c m l real okm okl somem somel [] left k ts a h rest d =
         let w = part_moves l okl d.1 d.2 d.3 rest d.7 in
@@ -294,14 +294,14 @@ module _ (g : Grammar) where
     climbs_move c m l real okm okl somem somel (f ∷ fs) left k ts a h rest d =
         let v = part_moves m okm d.1 f d.3 d.2 d.7 in
         let x = part_takes g S opens m okm somem d.1 f d.3 d.2 d.7 in
-        let w = climbs_move c m l real okm okl somem somel fs (f left) (suc (max k d.3)) d.2 a h rest d.8 in
-        let n = climbs_next c m l fs (f left) (suc (max k d.3)) d.2 a h rest d.8 in
+        let w = climbs_move c m l real okm okl somem somel fs (f d.0 left) (suc (max k d.3)) d.2 a h rest d.8 in
+        let n = climbs_next c m l fs (f d.0 left) (suc (max k d.3)) d.2 a h rest d.8 in
         record {
           text = d.0 ∷ (v.text ++ w.text);
           split = d.4 ∙ ap (λ (us : List g.T). d.0 ∷ us) (split_row v.text w.text d.1 d.2 rest v.split w.split);
           ends = (class_some c d.0 real d.5, no_end_append v.text w.text v.ends w.ends);
           is = λ new s.
-              let new_next = climbs_next c m l fs (f left) (suc (max k d.3)) (w.text ++ new) a h new (w.is new s) in (
+              let new_next = climbs_next c m l fs (f d.0 left) (suc (max k d.3)) (w.text ++ new) a h new (w.is new s) in (
                 d.0,
                 (v.text ++ w.text) ++ new,
                 w.text ++ new,

@@ -64,9 +64,9 @@ module _ (g : Grammar) where
     links_low t l f [] left k ts a h rest d = omega (arith, d.2)
     links_low t l f (b ∷ bs) left k ts a h rest d = omega (arith, links_low t l f bs (f left b) (suc (max k d.2)) d.1 a h rest d.4)
 
-    pub climbs_low : {A C : Type 0} (c : ℕ) (m : PartOf g (A → A)) (l : PartOf g (A → C)) (fs : List (A → A)) (left : A) (k : ℕ) (ts : List g.T) (a : C) (h : ℕ) (rest : List g.T) → Climbs g S c m l left k ts fs a h rest → suc (max k (low g l)) ≤ h
+    pub climbs_low : {A C : Type 0} (c : ℕ) (m : PartOf g (g.T → A → A)) (l : PartOf g (g.T → A → C)) (fs : List (g.T → A → A)) (left : A) (k : ℕ) (ts : List g.T) (a : C) (h : ℕ) (rest : List g.T) → Climbs g S c m l left k ts fs a h rest → suc (max k (low g l)) ≤ h
     climbs_low c m l [] left k ts a h rest d = omega (arith, low_is l d.1 d.2 d.3 rest d.7, d.9)
-    climbs_low c m l (f ∷ fs) left k ts a h rest d = omega (arith, climbs_low c m l fs (f left) (suc (max k d.3)) d.2 a h rest d.8)
+    climbs_low c m l (f ∷ fs) left k ts a h rest d = omega (arith, climbs_low c m l fs (f d.0 left) (suc (max k d.3)) d.2 a h rest d.8)
 
     pub rule_low : {A : Type 0} (r : RuleOf g A) (ts : List g.T) (a : A) (h : ℕ) (rest : List g.T) → DerivesRule g S r ts a h rest → low_rule g r ≤ h
     unfolding low_rule DerivesRule
@@ -123,13 +123,13 @@ module _ (g : Grammar) where
     links_open t l f ok [] left k ts a h rest d = let e : length rest ≡ length ts = ap length d.3 in omega arith
     links_open t l f ok (b ∷ bs) left k ts a h rest d = let le = shorter _ _ ts d.1 (part_opens l ok ts b d.2 d.1 d.3) in omega (arith, le, links_open t l f ok bs (f left b) (suc (max k d.2)) d.1 a h rest d.4)
 
-    climbs_open : {A C : Type 0} (c : ℕ) (m : PartOf g (A → A)) (l : PartOf g (A → C)) → is_predictive g m ≡ true → is_predictive g l ≡ true → (fs : List (A → A)) (left : A) (k : ℕ) (ts : List g.T) (a : C) (h : ℕ) (rest : List g.T) → Climbs g S c m l left k ts fs a h rest
+    climbs_open : {A C : Type 0} (c : ℕ) (m : PartOf g (g.T → A → A)) (l : PartOf g (g.T → A → C)) → is_predictive g m ≡ true → is_predictive g l ≡ true → (fs : List (g.T → A → A)) (left : A) (k : ℕ) (ts : List g.T) (a : C) (h : ℕ) (rest : List g.T) → Climbs g S c m l left k ts fs a h rest
         → length rest ≤ length ts
     climbs_open c m l ok1 ok2 [] left k ts a h rest d = let e : length ts ≡ suc (length d.1) = ap length d.4 in let le = shorter _ _ d.1 rest (part_opens l ok2 d.1 d.2 d.3 rest d.7) in omega arith
     climbs_open c m l ok1 ok2 (f ∷ fs) left k ts a h rest d =
         let e : length ts ≡ suc (length d.1) = ap length d.4 in
         let le = shorter _ _ d.1 d.2 (part_opens m ok1 d.1 f d.3 d.2 d.7) in
-        omega (arith, climbs_open c m l ok1 ok2 fs (f left) (suc (max k d.3)) d.2 a h rest d.8)
+        omega (arith, climbs_open c m l ok1 ok2 fs (f d.0 left) (suc (max k d.3)) d.2 a h rest d.8)
 
     pub rule_opens : {A : Type 0} (r : RuleOf g A) → is_predictive_rule g r ≡ true → (ts : List g.T) (a : A) (h : ℕ) (rest : List g.T) → DerivesRule g S r ts a h rest → (has (first_rule g r) (next g ts) ≡ true) × (length rest < length ts)
     unfolding first_rule DerivesRule is_predictive_rule

@@ -65,12 +65,12 @@ module _ (g : Grammar) where
         if t left && has (first g l) (next g ts) then (if nat_le (max k (low g l)) room then on (read l ts) (λ b i rest. links n t l f (f left b) (suc (max k i)) rest) else Err (TooDeep, ts))
         else Ok (left, k, ts)
 
-    unfoldable pub climbs : {A C : Type 0} → ℕ → ℕ → PartOf g (A → A) → PartOf g (A → C) → A → ℕ → List g.T → Out g C
+    unfoldable pub climbs : {A C : Type 0} → ℕ → ℕ → PartOf g (g.T → A → A) → PartOf g (g.T → A → C) → A → ℕ → List g.T → Out g C
     climbs zero c m l left k ts = Err (Unexpected, ts)
     climbs (suc n) c m l left k ts =
         on (take c ts) (λ x i mid.
-        if has (first g m) (next g mid) then (if nat_le (suc (max k 1)) room then on (read m mid) (λ f i rest. climbs n c m l (f left) (suc (max k i)) rest) else Err (TooDeep, mid))
-        else on (read l mid) (λ f i rest. Ok (f left, suc (max k i), rest)))
+        if has (first g m) (next g mid) then (if nat_le (suc (max k 1)) room then on (read m mid) (λ f i rest. climbs n c m l (f x left) (suc (max k i)) rest) else Err (TooDeep, mid))
+        else on (read l mid) (λ f i rest. Ok (f x left, suc (max k i), rest)))
 
     unfoldable pub read_rule : {A : Type 0} → RuleOf g A → List g.T → Out g A
     read_rule (form p) ts = on (read p ts) (λ a i rest. Ok (a, suc i, rest))

@@ -43,9 +43,9 @@ module _ (g : Grammar) where
     links_wider t l f [] left k ts a h rest d = d
     links_wider t l f (b ∷ bs) left k ts a h rest d = (d.0, d.1, d.2, wider l ts b d.2 d.1 d.3, links_wider t l f bs (f left b) (suc (max k d.2)) d.1 a h rest d.4)
 
-    pub climbs_wider : {A C : Type 0} (c : ℕ) (m : PartOf g (A → A)) (l : PartOf g (A → C)) (fs : List (A → A)) (left : A) (k : ℕ) (ts : List g.T) (a : C) (h : ℕ) (rest : List g.T) → Climbs g S c m l left k ts fs a h rest → Climbs g U c m l left k ts fs a h rest
+    pub climbs_wider : {A C : Type 0} (c : ℕ) (m : PartOf g (g.T → A → A)) (l : PartOf g (g.T → A → C)) (fs : List (g.T → A → A)) (left : A) (k : ℕ) (ts : List g.T) (a : C) (h : ℕ) (rest : List g.T) → Climbs g S c m l left k ts fs a h rest → Climbs g U c m l left k ts fs a h rest
     climbs_wider c m l [] left k ts a h rest d = (d.0, d.1, d.2, d.3, d.4, d.5, d.6, wider l d.1 d.2 d.3 rest d.7, d.8, d.9)
-    climbs_wider c m l (f ∷ fs) left k ts a h rest d = (d.0, d.1, d.2, d.3, d.4, d.5, d.6, wider m d.1 f d.3 d.2 d.7, climbs_wider c m l fs (f left) (suc (max k d.3)) d.2 a h rest d.8)
+    climbs_wider c m l (f ∷ fs) left k ts a h rest d = (d.0, d.1, d.2, d.3, d.4, d.5, d.6, wider m d.1 f d.3 d.2 d.7, climbs_wider c m l fs (f d.0 left) (suc (max k d.3)) d.2 a h rest d.8)
 
     pub rule_wider : {A : Type 0} (r : RuleOf g A) (ts : List g.T) (a : A) (h : ℕ) (rest : List g.T) → DerivesRule g S r ts a h rest → DerivesRule g U r ts a h rest
     unfolding DerivesRule
@@ -392,10 +392,10 @@ module _ (g : Grammar) where
         omega (arith, x.3, small refl))))
         (λ e. tt)
 
-    abbrev ClimbsAny : {A C : Type 0} → ℕ → PartOf g (A → A) → PartOf g (A → C) → A → ℕ → Phrases g C
-    ClimbsAny {A} c m l left k ts a h rest = (fs : List (A → A)) × Climbs g S c m l left k ts fs a h rest
+    abbrev ClimbsAny : {A C : Type 0} → ℕ → PartOf g (g.T → A → A) → PartOf g (g.T → A → C) → A → ℕ → Phrases g C
+    ClimbsAny {A} c m l left k ts a h rest = (fs : List (g.T → A → A)) × Climbs g S c m l left k ts fs a h rest
 
-    climb_begins : {A C : Type 0} (c : ℕ) (m : PartOf g (A → A)) (l : PartOf g (A → C)) (left : A) (k : ℕ) (fs : List (A → A)) (ts : List g.T) (a : C) (h : ℕ) (rest : List g.T) → Climbs g S c m l left k ts fs a h rest → next g ts ≡ c
+    climb_begins : {A C : Type 0} (c : ℕ) (m : PartOf g (g.T → A → A)) (l : PartOf g (g.T → A → C)) (left : A) (k : ℕ) (fs : List (g.T → A → A)) (ts : List g.T) (a : C) (h : ℕ) (rest : List g.T) → Climbs g S c m l left k ts fs a h rest → next g ts ≡ c
     climb_begins c m l left k [] ts a h rest d = ap (next g) d.4 ∙ d.5
     climb_begins c m l left k (f ∷ fs) ts a h rest d = ap (next g) d.4 ∙ d.5
 
@@ -407,20 +407,28 @@ module _ (g : Grammar) where
     unfolding tail_of
     tails x y xs ys e = sym (ap tail_of e)
 
+    head_of : g.T → List g.T → g.T
+    head_of d [] = d
+    head_of d (x ∷ xs) = x
+
+    heads : (x y : g.T) (xs ys : List g.T) → x ∷ xs ≡ y ∷ ys → y ≡ x
+    unfolding head_of
+    heads x y xs ys e = sym (ap (head_of x) e)
+
     -- what a climb goes on with behind its first token
-    climb_step : {A C : Type 0} (c : ℕ) (m : PartOf g (A → A)) (l : PartOf g (A → C)) (left : A) (k : ℕ) (fs : List (A → A)) (x : g.T) (mid : List g.T) (a : C) (h : ℕ) (rest : List g.T) → has (first g m) (next g mid) ≡ true → Climbs g S c m l left k (x ∷ mid) fs a h rest
-        → (f : A → A) × (i : ℕ) × (late : List g.T) × (suc (max k i) ≤ h) × Derives g S m mid f i late × ClimbsAny c m l (f left) (suc (max k i)) late a h rest
+    climb_step : {A C : Type 0} (c : ℕ) (m : PartOf g (g.T → A → A)) (l : PartOf g (g.T → A → C)) (left : A) (k : ℕ) (fs : List (g.T → A → A)) (x : g.T) (mid : List g.T) (a : C) (h : ℕ) (rest : List g.T) → has (first g m) (next g mid) ≡ true → Climbs g S c m l left k (x ∷ mid) fs a h rest
+        → (f : g.T → A → A) × (i : ℕ) × (late : List g.T) × (suc (max k i) ≤ h) × Derives g S m mid f i late × ClimbsAny c m l (f x left) (suc (max k i)) late a h rest
     climb_step c m l left k [] x mid a h rest e d = absurd (true_not_false _ e (subst (λ (w : List g.T). has (first g m) (next g w) ≡ false) (tails x d.0 mid d.1 d.4) d.6))
     climb_step c m l left k (f ∷ fs) x mid a h rest e d =
-        let lowest = climbs_low g S (phrase_low good) c m l fs (f left) (suc (max k d.3)) d.2 a h rest d.8 in
-        (f, d.3, d.2, omega arith, subst (λ (w : List g.T). Derives g S m w f d.3 d.2) (tails x d.0 mid d.1 d.4) d.7, (fs, d.8))
+        let lowest = climbs_low g S (phrase_low good) c m l fs (f d.0 left) (suc (max k d.3)) d.2 a h rest d.8 in
+        (f, d.3, d.2, omega arith, subst (λ (w : List g.T). Derives g S m w f d.3 d.2) (tails x d.0 mid d.1 d.4) d.7, subst (λ (y : g.T). ClimbsAny c m l (f y left) (suc (max k d.3)) d.2 a h rest) (heads x d.0 mid d.1 d.4) (fs, d.8))
 
-    climb_last : {A C : Type 0} (c : ℕ) (m : PartOf g (A → A)) (l : PartOf g (A → C)) (left : A) (k : ℕ) (fs : List (A → A)) (x : g.T) (mid : List g.T) (a : C) (h : ℕ) (rest : List g.T) → has (first g m) (next g mid) ≡ false → Climbs g S c m l left k (x ∷ mid) fs a h rest
-        → (f : A → C) × (i : ℕ) × (suc (max k i) ≤ h) × Derives g S l mid f i rest
+    climb_last : {A C : Type 0} (c : ℕ) (m : PartOf g (g.T → A → A)) (l : PartOf g (g.T → A → C)) (left : A) (k : ℕ) (fs : List (g.T → A → A)) (x : g.T) (mid : List g.T) (a : C) (h : ℕ) (rest : List g.T) → has (first g m) (next g mid) ≡ false → Climbs g S c m l left k (x ∷ mid) fs a h rest
+        → (f : g.T → A → C) × (i : ℕ) × (suc (max k i) ≤ h) × Derives g S l mid f i rest
     climb_last c m l left k [] x mid a h rest e d = (d.2, d.3, omega (arith, d.9), subst (λ (w : List g.T). Derives g S l w d.2 d.3 rest) (tails x d.0 mid d.1 d.4) d.7)
     climb_last c m l left k (f ∷ fs) x mid a h rest e d = absurd (true_not_false _ (subst (λ (w : List g.T). has (first g m) (next g w) ≡ true) (tails x d.0 mid d.1 d.4) d.6) e)
 
-    climbs_refute : {A B C : Type 0} (s : PartOf g B) (c : ℕ) (m : PartOf g (A → A)) (l : PartOf g (A → C)) → ClimbOk g s c m l → (n : ℕ) (left : A) (k : ℕ) (ts : List g.T) → suc room ≤ n + k → 1 ≤ k → k ≤ room → ErrAnd (Refuted (ClimbsAny c m l left k) (suc room) ts) (climbs g R room n c m l left k ts)
+    climbs_refute : {A B C : Type 0} (s : PartOf g B) (c : ℕ) (m : PartOf g (g.T → A → A)) (l : PartOf g (g.T → A → C)) → ClimbOk g s c m l → (n : ℕ) (left : A) (k : ℕ) (ts : List g.T) → suc room ≤ n + k → 1 ≤ k → k ≤ room → ErrAnd (Refuted (ClimbsAny c m l left k) (suc room) ts) (climbs g R room n c m l left k ts)
     unfolding climbs
     climbs_refute s c m l ok zero left k ts few some le = absurd (omega arith)
     climbs_refute s c m l ok (suc n) left k ts few some le =
@@ -438,20 +446,20 @@ module _ (g : Grammar) where
         (λ f i rest d.
         let w = moved m ok.fine_m mid f i rest d.0 in
         let one = flat_high g S m ok.flat_m mid f i rest d.0 in
-        err_to _ _ (climbs g R room n c m l (f left) (suc (max k i)) rest) (λ kind last v. behind (ClimbsAny c m l (f left) (suc (max k i))) (ClimbsAny c m l left k) (suc room) (suc room) (x ∷ w.text) rest ts kind last (fx.0 ∙ ap (λ (us : List g.T). x ∷ us) w.split) v
+        err_to _ _ (climbs g R room n c m l (f x left) (suc (max k i)) rest) (λ kind last v. behind (ClimbsAny c m l (f x left) (suc (max k i))) (ClimbsAny c m l left k) (suc room) (suc room) (x ∷ w.text) rest ts kind last (fx.0 ∙ ap (λ (us : List g.T). x ∷ us) w.split) v
         (λ text late split same a h end small y.
         let p = w.is (text ++ late) (stays_behind g (more g m) text rest last late split (inl same)) in
         let nexts : next g (w.text ++ (text ++ late)) ≡ next g mid = same_next w.text rest (text ++ late) mid w.split (same_next text last late rest split same) in
         let s = climb_step c m l left k y.0 x (w.text ++ (text ++ late)) a h end (ap (has (first g m)) nexts ∙ goes) y.1 in
         let o = one_part m ok.fine_m (w.text ++ (text ++ late)) s.0 f s.1 i s.2 (text ++ late) s.4 p in
-        (a, h, end, small, climbed c m l left k s.0 f s.1 i s.2 (text ++ late) a h end (same_value good _ _ _ _ _ _ o) (same_height good _ _ _ _ _ _ o) (same_rest good _ _ _ _ _ _ o) s.5)))
-        (climbs_refute s c m l ok n (f left) (suc (max k i)) rest (omega arith) (omega arith) (omega arith))))
+        (a, h, end, small, climbed c m l left k x s.0 f s.1 i s.2 (text ++ late) a h end (same_value good _ _ _ _ _ _ o) (same_height good _ _ _ _ _ _ o) (same_rest good _ _ _ _ _ _ o) s.5)))
+        (climbs_refute s c m l ok n (f x left) (suc (max k i)) rest (omega arith) (omega arith) (omega arith))))
         (λ fits2. record {
           text = x ∷ [];
           split = fx.0;
           none = λ new same a h end small d.
               let y = climb_step c m l left k d.0 x new a h end (ap (has (first g m)) same ∙ goes) d.1 in
-              let lowest = climbs_low g S (phrase_low good) c m l y.5.0 (y.0 left) (suc (max k y.1)) y.2 a h end y.5.1 in
+              let lowest = climbs_low g S (phrase_low good) c m l y.5.0 (y.0 x left) (suc (max k y.1)) y.2 a h end y.5.1 in
               let f = le_false _ _ fits2 in
               omega (arith, y.3, small refl);
         }))
@@ -464,9 +472,9 @@ module _ (g : Grammar) where
         (y.0, y.1, end, (λ q. omega (arith, y.2, small q)), y.3)))
         (λ f j rest. tt)))
       where
-        climbed : {A C : Type 0} (c : ℕ) (m : PartOf g (A → A)) (l : PartOf g (A → C)) (left : A) (k : ℕ) (f f' : A → A) (i i' : ℕ) (ts ts' : List g.T) (a : C) (h : ℕ) (end : List g.T) → f ≡ f' → i ≡ i' → ts ≡ ts' → ClimbsAny c m l (f left) (suc (max k i)) ts a h end → ClimbsAny c m l (f' left) (suc (max k i')) ts' a h end
-        climbed {A} c m l left k f f' i i' ts ts' a h end e1 e2 e3 d =
-            subst (λ (y : A → A). ClimbsAny c m l (y left) (suc (max k i')) ts' a h end) e1 (subst (λ (y : ℕ). ClimbsAny c m l (f left) (suc (max k y)) ts' a h end) e2 (subst (λ (y : List g.T). ClimbsAny c m l (f left) (suc (max k i)) y a h end) e3 d))
+        climbed : {A C : Type 0} (c : ℕ) (m : PartOf g (g.T → A → A)) (l : PartOf g (g.T → A → C)) (left : A) (k : ℕ) (x : g.T) (f f' : g.T → A → A) (i i' : ℕ) (ts ts' : List g.T) (a : C) (h : ℕ) (end : List g.T) → f ≡ f' → i ≡ i' → ts ≡ ts' → ClimbsAny c m l (f x left) (suc (max k i)) ts a h end → ClimbsAny c m l (f' x left) (suc (max k i')) ts' a h end
+        climbed {A} c m l left k x f f' i i' ts ts' a h end e1 e2 e3 d =
+            subst (λ (y : g.T → A → A). ClimbsAny c m l (y x left) (suc (max k i')) ts' a h end) e1 (subst (λ (y : ℕ). ClimbsAny c m l (f x left) (suc (max k y)) ts' a h end) e2 (subst (λ (y : List g.T). ClimbsAny c m l (f x left) (suc (max k i)) y a h end) e3 d))
 
     is_read_rule : {A : Type 0} (r : RuleOf g A) → is_predictive_rule g r ≡ true → low_rule g r ≤ suc room → (ts : List g.T) → OkAnd g (Fits g (DerivesRule g S r) (suc room) ts) (read_rule g R room r ts)
     is_read_rule r fine le ts = sound_rule g R S room (read_phrase good room) r fine le ts

@@ -27,7 +27,7 @@ pub data Rule (N : Type 0) (V : N → Type 0) (T : Type 0) : Type 0 → Type 1 w
   -- What stands left, and then links as often as the next token begins one and the test holds of what stands left; each makes a tree that is one higher than its two parts and stands left of the next.
   chain : {A B : Type 0} → Rule N V T A → (A → Bool) → Part N V T B → (A → B → A) → Rule N V T A
   -- What stands left, one level of height down, and then tokens of this class, each with a link behind, of which the last is of the second kind; each makes a tree, as in a chain.
-  climb : {A C : Type 0} → Part N V T A → (class : ℕ) → Part N V T (A → A) → Part N V T (A → C) → Rule N V T C
+  climb : {A C : Type 0} → Part N V T A → (class : ℕ) → Part N V T (T → A → A) → Part N V T (T → A → C) → Rule N V T C
 
 -- A grammar: the rule of each nonterminal. The other fields say of each nonterminal what follows from its rule: the least height of its trees, the classes of tokens that begin one, those that may go on with one that could end, and a rank above that of each nonterminal that may stand first in it.
 pub record Grammar : Type 1 where

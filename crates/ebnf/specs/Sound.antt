@@ -91,8 +91,8 @@ module _ (g : Grammar) where
         (λ fits. tt))
         (λ e. (([], (e, refl, refl, refl)), le))
 
-    climbs_sound : {A B C : Type 0} (s : PartOf g B) (c : ℕ) (m : PartOf g (A → A)) (l : PartOf g (A → C)) → ClimbOk g s c m l → (n : ℕ) (left : A) (k : ℕ) (ts : List g.T) → 1 ≤ room → k ≤ room
-        → OkAnd g (λ a h rest. ((fs : List (A → A)) × Climbs g S c m l left k ts fs a h rest) × (h ≤ suc room)) (climbs g R room n c m l left k ts)
+    climbs_sound : {A B C : Type 0} (s : PartOf g B) (c : ℕ) (m : PartOf g (g.T → A → A)) (l : PartOf g (g.T → A → C)) → ClimbOk g s c m l → (n : ℕ) (left : A) (k : ℕ) (ts : List g.T) → 1 ≤ room → k ≤ room
+        → OkAnd g (λ a h rest. ((fs : List (g.T → A → A)) × Climbs g S c m l left k ts fs a h rest) × (h ≤ suc room)) (climbs g R room n c m l left k ts)
     unfolding climbs
     climbs_sound s c m l ok zero left k ts some le = tt
     climbs_sound s c m l ok (suc n) left k ts some le =
@@ -103,7 +103,7 @@ module _ (g : Grammar) where
         ok_on g _ _ (read g R room m mid) _ (sound m ok.fine_m (omega (arith, flat_low g m ok.flat_m)) mid)
         (λ f i rest d.
         let one = flat_high g S m ok.flat_m mid f i rest d.0 in
-        ok_to g _ _ (climbs g R room n c m l (f left) (suc (max k i)) rest) (λ a h end y. ((f ∷ y.0.0, (x, mid, rest, i, first_is.0, first_is.1, goes, d.0, y.0.1)), y.1)) (climbs_sound s c m l ok n (f left) (suc (max k i)) rest some (omega arith))))
+        ok_to g _ _ (climbs g R room n c m l (f x left) (suc (max k i)) rest) (λ a h end y. ((f ∷ y.0.0, (x, mid, rest, i, first_is.0, first_is.1, goes, d.0, y.0.1)), y.1)) (climbs_sound s c m l ok n (f x left) (suc (max k i)) rest some (omega arith))))
         (λ fits. tt))
         (λ goes. ok_on g _ _ (read g R room l mid) _ (sound l ok.fine_l (omega (arith, flat_low g l ok.flat_l)) mid) (λ f i rest d. (([], (x, mid, f, i, first_is.0, first_is.1, goes, d.0, refl, refl)), omega (arith, d.1)))))
 

@@ -389,7 +389,7 @@ module _ (g : Grammar) where
             (λ fits. stuck_here (LinksOf left k) goes_on (suc room) ts TooDeep (links_here left k le) (λ z. links_deep left k ts e)))
             (λ e. tt)
 
-      module _ {A B C : Type 0} (s : PartOf g B) (c : ℕ) (m : PartOf g (A → A)) (l : PartOf g (A → C)) (o : ClimbOk g s c m l) (last_m : Lasts g m) (last_l : Lasts g l) where
+      module _ {A B C : Type 0} (s : PartOf g B) (c : ℕ) (m : PartOf g (g.T → A → A)) (l : PartOf g (g.T → A → C)) (o : ClimbOk g s c m l) (last_m : Lasts g m) (last_l : Lasts g l) where
         abbrev ClimbOf : A → ℕ → Phrases g C
         ClimbOf left k = AnyClimb g good c m l left k
 
@@ -423,10 +423,10 @@ module _ (g : Grammar) where
             (λ f i rest d.
             let w = moved m o.fine_m mid f i rest d.0 in
             let one = flat_high g (S g) m o.flat_m mid f i rest d.0 in
-            err_to g _ _ (climbs g R room n c m l (f left) (suc (max k i)) rest) (λ kind late v. stuck_behind (ClimbOf (f left) (suc (max k i))) (ClimbOf left k) (more g l) (more g l) (suc room) (suc room) (x ∷ w.text) rest ts kind late (fx.0 ∙ ap (λ (us : List g.T). x ∷ us) w.split) (one_end.0, w.ends) v
+            err_to g _ _ (climbs g R room n c m l (f x left) (suc (max k i)) rest) (λ kind late v. stuck_behind (ClimbOf (f x left) (suc (max k i))) (ClimbOf left k) (more g l) (more g l) (suc room) (suc room) (x ∷ w.text) rest ts kind late (fx.0 ∙ ap (λ (us : List g.T). x ∷ us) w.split) (one_end.0, w.ends) v
             (wider_room g good _ _ (suc (suc (max k 1))) (suc room) _ (omega arith) (climb_stop g good s c m l o short_l left k x fx.1 mid f i rest w))
             (λ less u us few2 same y. wider_room g good _ _ less (suc room) _ few2 (climb_more g good s c m l o short_l left k x fx.1 mid f i rest w less u us same y)) (λ less u us same y. (less, climb_more g good s c m l o short_l left k x fx.1 mid f i rest w less u us same y)))
-            (climbs_stuck n (f left) (suc (max k i)) rest (omega arith) (omega arith) (omega arith))))
+            (climbs_stuck n (f x left) (suc (max k i)) rest (omega arith) (omega arith) (omega arith))))
             (λ fits. record {
               text = x ∷ [];
               split = fx.0;
@@ -504,7 +504,7 @@ module _ (g : Grammar) where
       }
 
       -- what a climb begins with, and its end
-      from_start : {A B : Type 0} (s : PartOf g A) (c : ℕ) (m : PartOf g (A → A)) (l : PartOf g (A → B)) (o : ClimbOk g s c m l) (last_m : Lasts g m) (last_l : Lasts g l) (low : ℕ) (text : List g.T) → 1 ≤ low → Viable g (Derives g (S g) s) (more g s) low text → Viable g (DerivesRule g (S g) (climb s c m l)) (more_rule g (climb s c m l)) (suc low) text
+      from_start : {A B : Type 0} (s : PartOf g A) (c : ℕ) (m : PartOf g (g.T → A → A)) (l : PartOf g (g.T → A → B)) (o : ClimbOk g s c m l) (last_m : Lasts g m) (last_l : Lasts g l) (low : ℕ) (text : List g.T) → 1 ≤ low → Viable g (Derives g (S g) s) (more g s) low text → Viable g (DerivesRule g (S g) (climb s c m l)) (more_rule g (climb s c m l)) (suc low) text
       unfolding DerivesRule more_rule
       from_start s c m l o last_m last_l low text some v =
           let e = climb_end g good s c m l o (short g good ready.lasts l o.fine_l last_l) v.value v.high in
@@ -519,7 +519,7 @@ module _ (g : Grammar) where
                 subst (λ (w : List g.T). DerivesRule g (S g) (climb s c m l) (text ++ w) e.value e.high new) (sym (append_assoc v.late (g.of_class c ∷ e.late) new)) (v.value, v.high, g.of_class c ∷ (e.late ++ new), x.0, d, x.1);
           }
 
-      from_climb : {A B : Type 0} (s : PartOf g A) (c : ℕ) (m : PartOf g (A → A)) (l : PartOf g (A → B)) (ts : List g.T) (left : A) (k : ℕ) (mid : List g.T) → (w : Moves g (Derives g (S g) s) (more g s) ts left k mid) → (low : ℕ) (x : g.T) (us : List g.T) → g.class x ≡ next g mid
+      from_climb : {A B : Type 0} (s : PartOf g A) (c : ℕ) (m : PartOf g (g.T → A → A)) (l : PartOf g (g.T → A → B)) (ts : List g.T) (left : A) (k : ℕ) (mid : List g.T) → (w : Moves g (Derives g (S g) s) (more g s) ts left k mid) → (low : ℕ) (x : g.T) (us : List g.T) → g.class x ≡ next g mid
           → Viable g (AnyClimb g good c m l left k) (more g l) low (x ∷ us) → Viable g (DerivesRule g (S g) (climb s c m l)) (more_rule g (climb s c m l)) low (w.text ++ (x ∷ us))
       unfolding DerivesRule more_rule
       from_climb s c m l ts left k mid w low x us same v = record {
