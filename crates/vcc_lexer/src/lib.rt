@@ -1,0 +1,8 @@
+//! The tokens of a source.
+#![tactic(auto)]
+
+pub mod bytes;
+pub mod numbers;
+pub mod place;
+pub mod signs;
+pub mod words;
