@@ -8,3 +8,6 @@ pub mod Runs
 pub mod DigitValues
 pub mod Forms
 pub mod Shapes
+pub mod Skipping
+pub mod Longest
+pub mod Determined

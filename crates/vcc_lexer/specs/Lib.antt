@@ -2,3 +2,5 @@ pub mod Classes
 pub mod Places
 pub mod First
 pub mod NumberTexts
+pub mod Gaps
+pub mod Bad

@@ -2,6 +2,8 @@
 #![tactic(auto)]
 
 pub mod bytes;
+pub mod first;
+pub mod gaps;
 pub mod numbers;
 pub mod place;
 pub mod signs;
