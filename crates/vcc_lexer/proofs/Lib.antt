@@ -11,3 +11,4 @@ pub mod Shapes
 pub mod Skipping
 pub mod Longest
 pub mod Determined
+pub mod Reading

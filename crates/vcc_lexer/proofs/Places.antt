@@ -1,5 +1,5 @@
 -- Places behind a text, byte by byte.
-use Rattle.std.proofs.Common.{◌≡◌, ℕ, ◌<◌, ◌≤◌, ◌+◌, Bool, true, false, List, [], ◌∷◌, ◌++◌, length, take, get_or, refl, ap, ◌∙◌, arith}
+use Rattle.std.proofs.Common.{◌≡◌, ℕ, ◌<◌, ◌≤◌, ◌+◌, Bool, true, false, List, [], ◌∷◌, ◌++◌, length, take, get_or, refl, sym, ap, subst, ◌∙◌, arith}
 use Rattle.std.specs.Prelude.{if◌then◌else◌, ◌==◌}
 use Rattle.std.proofs.lemmas.List.{take_more}
 use Rattle.c_syntax.specs.Lexing.{Position, at, behind, behind_byte}
@@ -31,3 +31,15 @@ near (b ∷ text) p pos =
     let one = near_byte b p pos in
     let rest = near text (behind_byte b p) one.some in
     record { offset = omega arith; line = omega arith; column = omega arith; some = rest.some }
+
+-- the numbers of a place fit with as many bytes behind it
+pub record Room (p : Position) (n : ℕ) : Type 0 where
+  pub offset : p.offset + n ≤ 4294967295
+  pub line : p.place.line + n ≤ 4294967295
+  pub column : p.place.column + n ≤ 4294967295
+  pub counted : 0 < p.place.column
+
+pub room_on : (p q : Position) (front : List ℕ) (n m : ℕ) → Room p n → q ≡ behind front p → length front + m ≡ n → Room q m
+room_on p q front n m room e sum =
+    let by : Near (length front) p q = subst (λ x. Near (length front) p x) (sym e) (near front p room.counted) in
+    record { offset = omega (arith, by.offset, room.offset); line = omega (arith, by.line, room.line); column = omega (arith, by.column, room.column); counted = by.some }

@@ -4,3 +4,4 @@ pub mod First
 pub mod NumberTexts
 pub mod Gaps
 pub mod Bad
+pub mod Steps
