@@ -12,3 +12,4 @@ pub mod Skipping
 pub mod Longest
 pub mod Determined
 pub mod Reading
+pub mod Slices

@@ -5,3 +5,4 @@ pub mod NumberTexts
 pub mod Gaps
 pub mod Bad
 pub mod Steps
+pub mod Texts

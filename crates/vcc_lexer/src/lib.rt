@@ -6,6 +6,7 @@ ghost use Rattle.c_syntax.specs.Lexing.{AreOrMemory, BeginsComment, FailsOrMemor
 ghost use Rattle.c_syntax.specs.declared.fault.LexFault.{LexFault};
 ghost use Rattle.vcc_lexer.specs.Places.{position};
 ghost use Rattle.vcc_lexer.specs.Steps.{IsStep};
+ghost use Rattle.vcc_lexer.specs.Texts.{HaveTexts};
 
 use crate::first::{BadFront, first_token};
 use crate::gaps::{Gap, first_gap};
@@ -17,6 +18,7 @@ use std::alloc::Global;
 pub mod bytes;
 pub mod first;
 pub mod gaps;
+pub mod laws;
 pub mod numbers;
 pub mod place;
 pub mod signs;
@@ -86,6 +88,8 @@ pub fn tokens(alloc: Global, bytes: &[u8]) -> Result<Vec<Token<'_>>, LexFault>
     // What is found are the bytes' tokens, within the limit.
     ensures lexes { IfOk result (λ v. Lexes bytes.now (map lexeme v.items)) }
     ensures few { IfOk result (λ v. length v.items ≤ 262145) }
+    // The bytes from a token's start up to its end are that token.
+    ensures texts { IfOk result (λ v. HaveTexts bytes.now (map lexeme v.items)) }
     // A fault is the first, at its place, unless memory ran out.
     ensures fault { IfErr result (λ e. IsFirstOrMemory bytes.now e) }
     // Where the bytes are tokens within the limit, these are found, and no others; where there is a first fault, it is answered.

@@ -13,6 +13,7 @@ use Rattle.vcc_lexer.specs.Places.{position}
 use Rattle.vcc_lexer.specs.Steps.{IsStepOf}
 use Rattle.vcc_lexer.proofs.Places.{Room, room_on}
 use Rattle.vcc_lexer.proofs.Reading.{skipped_on, token_on, moved_to, only_fault, first_fault, same_tokens, no_fault, fault_found}
+use Rattle.vcc_lexer.proofs.Slices.{token_texts}
 use Rattle.vcc_lexer.proofs.tokens.Goals as goal
 
 pushed : (ok : Bool) (old new : List Token) (x : Token) → ok ≡ true → new ≡ cond ok (old ++ x ∷ []) old → new ≡ old ++ x ∷ []
@@ -84,6 +85,11 @@ loop-rest-preserved c =
       few = omega (arith, ap length now, length-append c.loop-rest.found.items (c.in-Some.token ∷ []), found.0, c.len.ensures);
       room = room_on p (position c.behind-place.result) c.split_at.result.0.now (length c.loop-rest.rest.now) (length c.split_at.result.1.now) c.loop-rest.invariant.room c.behind-place.ensures (omega (arith, c.split_at.ensures.front_len, c.split_at.ensures.back_len));
     }
+
+pub returns-clause-texts : goal.returns-clause-texts
+returns-clause-texts c =
+    let new = pushed (is_ok c.push-2.result) c.loop-rest.found.items c.push-2.new.self.items _ c.if-is_err-2.ensures.negation c.push-2.ensures.items in
+    token_texts c.args.bytes.now (map lexeme c.push-2.new.self.items) (lexed c.args.bytes.now c.loop-rest.rest.now (position c.loop-rest.place) c.loop-rest.found.items c.push-2.new.self.items _ c.loop-rest.invariant.reaches (no_rest c.loop-rest.rest.now c.loop-rest-test.ensures) new (sym (end_lexeme (position c.loop-rest.place))))
 
 pub returns-clause-only : goal.returns-clause-only
 returns-clause-only c =
