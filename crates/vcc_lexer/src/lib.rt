@@ -24,6 +24,9 @@ pub mod place;
 pub mod signs;
 pub mod words;
 
+#[cfg(test)]
+mod tests;
+
 /// How many tokens a source may have, its end not counted.
 const MOST_TOKENS: usize = 262144;
 
