@@ -1,7 +1,7 @@
 -- A source is read in one way only: one list of tokens, or one first fault.
-use Rattle.std.proofs.Common.{◌≡◌, ◌≢◌, ℕ, ◌<◌, ◌≤◌, ◌+◌, ◌-◌, Bool, true, false, List, [], ◌∷◌, ◌++◌, length, get_or, take, drop, map, refl, sym, ap, ◌∙◌, subst, inl, inr, arith, Result, Ok, Err}
+use Rattle.std.proofs.Common.{◌≡◌, ℕ, ◌<◌, ◌≤◌, ◌+◌, true, List, [], ◌∷◌, ◌++◌, length, get_or, take, drop, refl, sym, ap, ◌∙◌, subst, inl, inr, arith, Err}
 use Rattle.std.specs.Prelude.{◌⊎◌, codes}
-use Rattle.std.proofs.lemmas.List.{length-append, append-nil, append_assoc, length-take, get_or-take}
+use Rattle.std.proofs.lemmas.List.{length-append, append-nil, get_or-take}
 use Rattle.c_syntax.specs.declared.token.Span.{Span}
 use Rattle.c_syntax.specs.declared.token.Sign.TheVariants as s
 use Rattle.c_syntax.specs.declared.fault.LexFault.{LexFault}

@@ -1,5 +1,5 @@
 -- Runs of digits and letters at the front of a text.
-use Rattle.std.proofs.Common.{◌≡◌, ℕ, ◌<◌, ◌≤◌, ◌+◌, ◌-◌, Bool, true, false, List, length, get_or, drop, refl, sym, ap, ◌∙◌, subst, arith, inl, inr, add_assoc, add-zero}
+use Rattle.std.proofs.Common.{◌≡◌, ℕ, ◌<◌, ◌≤◌, ◌+◌, ◌-◌, true, false, List, length, get_or, drop, refl, sym, ap, ◌∙◌, arith, inl, inr, add_assoc}
 use Rattle.std.proofs.lemmas.Bool.{cases_lt}
 use Rattle.std.proofs.lemmas.List.{get_or-drop, get_or_past, length-drop}
 use Rattle.c_syntax.specs.Numbers as n

@@ -1,7 +1,6 @@
 -- The number that stands first in a text.
-use Rattle.std.proofs.Common.{◌≡◌, ◌≢◌, ℕ, ◌<◌, ◌≤◌, ◌+◌, ◌-◌, Bool, true, false, List, [], ◌∷◌, ◌++◌, length, get_or, take, drop, map, refl, sym, ap, ◌∙◌, subst, inl, inr, arith, add-zero, Option, Some, None}
-use Rattle.std.specs.Prelude.{◌⊎◌, All, codes}
-use Rattle.std.specs.Str.Parse.{digits_value}
+use Rattle.std.proofs.Common.{◌≡◌, ℕ, ◌<◌, ◌≤◌, ◌+◌, ◌-◌, Bool, true, false, List, [], ◌∷◌, ◌++◌, length, get_or, take, drop, map, refl, sym, ap, ◌∙◌, subst, inl, inr, arith, add-zero, Option, Some}
+use Rattle.std.specs.Prelude.{All, codes}
 use Rattle.std.proofs.lemmas.Bool.{cases_lt}
 use Rattle.std.proofs.lemmas.Bool.Decides.{nat_tests}
 use Rattle.std.proofs.lemmas.List.{get_or-take, get_or-drop, get_or_past, length-take-le, length-take, length-drop, take-append-drop, take-take, drop-take, drop-drop, append_cancel_left, append_assoc}
@@ -227,10 +226,14 @@ digit_token (t.Mark x) text d h = let a : is_digit (get_or text 0 0) ≡ false =
 digit_token t.End text d h = absurd h
 
 pub number_refused : (base : n.Base) (d l : ℕ) (text : List ℕ) → HasCounts base d l text → ((v : ℕ) (ty : CType) → Writes base (digits_in base d text) (letters_in base d l text) v ty → ⊥) → (n : ℕ) × IsLongest text n × ((word : Word) → IsToken word (take n text) → ⊥)
-number_refused base d l text h none = (length (prefix base) + d + l, number_longest base d l text h, λ word x.
-    let s = shape_taken base d l text h in
-    let found = digit_token word (take (length (prefix base) + d + l) text) (shape_digit base (digits_in base d text) (letters_in base d l text) (take (length (prefix base) + d + l) text) s) x in
-    none found.0 found.1 (number_writes base d l text found.0 found.1 h found.2))
+number_refused base d l text h none = (
+  length (prefix base) + d + l,
+  number_longest base d l text h,
+  λ word x.
+      let s = shape_taken base d l text h in
+      let found = digit_token word (take (length (prefix base) + d + l) text) (shape_digit base (digits_in base d text) (letters_in base d l text) (take (length (prefix base) + d + l) text) s) x in
+      none found.0 found.1 (number_writes base d l text found.0 found.1 h found.2),
+)
 
 -- ---- the same, with the parts as the code cuts them
 

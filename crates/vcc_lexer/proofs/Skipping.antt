@@ -1,6 +1,6 @@
 -- What is skipped at the front of a text.
-use Rattle.std.proofs.Common.{◌≡◌, ◌≢◌, ℕ, ◌<◌, ◌≤◌, ◌+◌, ◌-◌, Bool, true, false, eqb, List, [], ◌∷◌, ◌++◌, length, get_or, take, drop, refl, sym, ap, ◌∙◌, subst, inl, inr, arith, Some, None, add-zero}
-use Rattle.std.specs.Prelude.{◌⊎◌, All, codes, not, ◌==◌}
+use Rattle.std.proofs.Common.{◌≡◌, ◌≢◌, ℕ, ◌<◌, ◌≤◌, ◌+◌, true, false, eqb, List, [], ◌∷◌, ◌++◌, length, get_or, take, drop, refl, sym, ap, ◌∙◌, subst, inl, inr, arith, Some, None, add-zero}
+use Rattle.std.specs.Prelude.{◌⊎◌, codes, not, ◌==◌}
 use denote.Ref.{Bor}
 use Rattle.std.specs.Cmp.Lexicographic.{pointwise}
 use Rattle.std.proofs.lemmas.Bool.{cases_lt}
@@ -10,7 +10,6 @@ use Rattle.std.proofs.lemmas.List.{get_or-take, get_or-drop, get_or_past, length
 use Rattle.std.proofs.lemmas.List.Elements.{All-from_get_or}
 use Rattle.c_syntax.specs.Lexing as s
 use Rattle.c_syntax.specs.Lexing.{Position, Skips, HasNoEnd, EndsLine, BeginsComment}
-use Rattle.vcc_lexer.specs.Classes.{is_in}
 use Rattle.vcc_lexer.specs.declared.bytes.Class.TheVariants as c
 use Rattle.vcc_lexer.specs.Gaps.{IsBlank, IsBody}
 use Rattle.vcc_lexer.proofs.Runs.{IsRun}
@@ -32,8 +31,7 @@ blank_skips p (b ∷ rest) h = s.blank b rest refl h refl
 -- where a `*/` stands
 pub end_at : (text a b : List ℕ) → text ≡ a ++ codes "*/" ++ b → (get_or text (length a) 0 ≡ 42) × (get_or text (length a + 1) 0 ≡ 47) × (length a + 2 ≤ length text)
 end_at text a b e =
-    let f : text ≡ a ++ (42 ∷ 47 ∷ b) = e ∙ append_assoc a (codes "*/") b in
-    (
+    let f : text ≡ a ++ (42 ∷ 47 ∷ b) = e ∙ append_assoc a (codes "*/") b in (
       ap (λ (w : List ℕ). get_or w (length a) 0) f ∙ get_or_at a 42 (47 ∷ b) 0 (length a) refl,
       ap (λ (w : List ℕ). get_or w (length a + 1) 0) f ∙ get_or-append-add a (42 ∷ 47 ∷ b) 1 0,
       omega (arith, ap length f, length-append a (42 ∷ 47 ∷ b)),
@@ -78,12 +76,12 @@ pub line_skips : (p : Position) (text line : List ℕ) (n : ℕ) → text ≡ co
 line_skips p text line n e run =
     let l : length (take n line) ≡ n = length-take-le n line run.within in
     s.line_comment (take n line) (drop n line) (e ∙ ap (λ (w : List ℕ). codes "//" ++ w) (sym (take-append-drop n line)))
-      (All-from_get_or (λ b. b ≢ 10) (take n line) 0 (λ i lt. not_end (get_or (take n line) i 0) (ap (λ b. not (b == 10)) (get_or-take n line i 0 (omega arith)) ∙ run.all i (omega arith))))
-      (elim (cases_lt n (length line)) [
-        | inl lt ↦ inr (get_or-drop n line 0 0 ∙ ap (λ k. get_or line k 0) (add-zero n) ∙ is_end (get_or line n 0) (run.ends lt))
-        | inr le ↦ inl (drop_all n line le)
-      ])
-      (omega arith)
+    (All-from_get_or (λ b. b ≢ 10) (take n line) 0 (λ i lt. not_end (get_or (take n line) i 0) (ap (λ b. not (b == 10)) (get_or-take n line i 0 (omega arith)) ∙ run.all i (omega arith))))
+    (elim (cases_lt n (length line)) [
+      | inl lt ↦ inr (get_or-drop n line 0 0 ∙ ap (λ k. get_or line k 0) (add-zero n) ∙ is_end (get_or line n 0) (run.ends lt))
+      | inr le ↦ inl (drop_all n line le)
+    ])
+    (omega arith)
 
 -- ---- nothing
 

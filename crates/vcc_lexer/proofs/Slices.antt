@@ -1,14 +1,13 @@
 -- A token's text is its slice of the source.
-use Rattle.std.proofs.Common.{◌≡◌, ◌≢◌, ℕ, ◌<◌, ◌≤◌, ◌+◌, ◌-◌, Bool, true, false, List, [], ◌∷◌, ◌++◌, length, take, drop, refl, sym, ap, ◌∙◌, subst, arith}
+use Rattle.std.proofs.Common.{◌≡◌, ◌≢◌, ℕ, ◌+◌, Bool, true, false, List, [], ◌∷◌, ◌++◌, length, take, drop, refl, sym, ap, ◌∙◌, subst, arith}
 use Rattle.std.specs.Prelude.{All, if◌then◌else◌, ◌==◌}
-use Rattle.std.proofs.lemmas.List.{length-append, length-take, length-take-le, length-drop, append_assoc, take-append-drop, drop_at, drop-take, take_at}
+use Rattle.std.proofs.lemmas.List.{length-append, append_assoc, take-append-drop, drop_at, drop-take}
 use Rattle.std.proofs.lemmas.List.Elements.{All-nil, All-cons, All-append}
 use Rattle.c_syntax.specs.Tokens as t
 use Rattle.c_syntax.specs.Tokens.{Word, IsToken}
 use Rattle.c_syntax.specs.Lexing as l
 use Rattle.c_syntax.specs.Lexing.{Position, Lexeme, Skips, IsFirst, Reaches, Lexes, at, behind, behind_byte, first_position, lexeme_at}
 use Rattle.vcc_lexer.specs.Texts.{HaveTexts}
-use Rattle.vcc_lexer.proofs.Reading.{skip_within}
 
 -- ---- how many bytes are before a place
 
@@ -47,4 +46,4 @@ texts_from {p} {text = text} bytes before whole e (l.token {word = word} {n = n}
 pub token_texts : (bytes : List ℕ) (ts : List Lexeme) → Lexes bytes ts → HaveTexts bytes ts
 token_texts bytes ts h =
     subst (λ (w : List Lexeme). All (HasText bytes) w) (sym h.last)
-      (All-append (HasText bytes) h.before (lexeme_at h.end t.End 0 ∷ []) (texts_from bytes [] refl refl h.reaches) (All-cons (HasText bytes) (lexeme_at h.end t.End 0) [] (λ z. absurd (z refl)) (All-nil (HasText bytes))))
+    (All-append (HasText bytes) h.before (lexeme_at h.end t.End 0 ∷ []) (texts_from bytes [] refl refl h.reaches) (All-cons (HasText bytes) (lexeme_at h.end t.End 0) [] (λ z. absurd (z refl)) (All-nil (HasText bytes))))

@@ -1,7 +1,6 @@
 -- Each word is in the table of its kind, and is spelled as a name.
-use Rattle.std.proofs.Common.{◌≡◌, ℕ, Bool, true, false, List, [], ◌∷◌, ◌++◌, ◌&&◌, length, get_or, lit<, refl, sym, ap, ◌∙◌}
+use Rattle.std.proofs.Common.{◌≡◌, ℕ, Bool, true, false, List, [], ◌∷◌, ◌&&◌, lit<, refl, sym, ap, ◌∙◌}
 use Rattle.std.specs.Prelude.{All, if◌then◌else◌}
-use Rattle.std.specs.List.{list_all}
 use Rattle.std.specs.Str.{bytes_eq}
 use Rattle.c_syntax.specs.declared.token.Keyword.{Keyword}
 use Rattle.c_syntax.specs.declared.token.Keyword.TheVariants as k
@@ -9,7 +8,7 @@ use Rattle.c_syntax.specs.declared.token.SpecWord.{SpecWord}
 use Rattle.c_syntax.specs.declared.token.SpecWord.TheVariants as w
 use Rattle.c_syntax.specs.Words.{keyword_text, spec_word_text}
 use Rattle.c_syntax.specs.Numbers.{is_letter}
-use Rattle.c_syntax.specs.Tokens.{is_name_byte, begins_name}
+use Rattle.c_syntax.specs.Tokens.{is_name_byte}
 use Rattle.vcc_lexer.specs.declared.words.TheConstants.{KEYWORDS, SPEC_WORDS}
 
 -- letters, digits and `_`, of which the first is a letter
@@ -240,4 +239,3 @@ spec_word_of_text w.Exists = refl
 
 pub same_spec_word : (a b : SpecWord) → spec_word_text a ≡ spec_word_text b → a ≡ b
 same_spec_word a b e = sym (spec_word_of_text a) ∙ ap spec_word_of e ∙ spec_word_of_text b
-

@@ -1,5 +1,5 @@
 -- Numbers by their parts: how many digits and letters stand first, and which number they are.
-use Rattle.std.specs.Prelude.{◌≡◌, ℕ, ◌+◌, ◌<◌, ◌≤◌, Bool, true, false, Some, List, ◌++◌, length, map, take, slice_index}
+use Rattle.std.specs.Prelude.{◌≡◌, ℕ, ◌+◌, ◌<◌, ◌≤◌, Bool, true, false, Some, List, length, map, take, slice_index}
 use Rattle.std.specs.Str.Parse.{digits_value}
 use Rattle.int_ranges.specs.declared.ctype.CType.{CType}
 use Rattle.c_syntax.specs.Numbers as n

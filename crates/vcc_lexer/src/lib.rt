@@ -22,10 +22,9 @@ pub mod laws;
 pub mod numbers;
 pub mod place;
 pub mod signs;
-pub mod words;
-
 #[cfg(test)]
 mod tests;
+pub mod words;
 
 /// How many tokens a source may have, its end not counted.
 const MOST_TOKENS: usize = 262144;

@@ -70,9 +70,7 @@ fn digit_class(base: Base) -> Class
 fn begins_hexadecimal(text: &[u8]) -> bool
     ensures { MatchBool result (BeginsHexadecimal text.now) (BeginsHexadecimal text.now → ⊥) }
 {
-    byte_at(text, 0) == b'0'
-        && byte_at(text, 1) == b'x'
-        && is_in(Class::HexDigit, byte_at(text, 2))
+    byte_at(text, 0) == b'0' && byte_at(text, 1) == b'x' && is_in(Class::HexDigit, byte_at(text, 2))
 }
 
 /// How many digits and letters stand behind the prefix.
@@ -129,19 +127,34 @@ fn suffix_of(letters: &[u8]) -> Option<Suffix>
     ensures { MatchOption result ((u g : Bool) → IsSuffix (map lower letters.now) u g → ⊥) (λ x. IsSuffix (map lower letters.now) x.unsigned x.long) }
 {
     if is_spelled(letters, b"") {
-        return Some(Suffix { unsigned: false, long: false });
+        return Some(Suffix {
+            unsigned: false,
+            long: false,
+        });
     }
     if is_spelled(letters, b"u") {
-        return Some(Suffix { unsigned: true, long: false });
+        return Some(Suffix {
+            unsigned: true,
+            long: false,
+        });
     }
     if is_spelled(letters, b"ll") {
-        return Some(Suffix { unsigned: false, long: true });
+        return Some(Suffix {
+            unsigned: false,
+            long: true,
+        });
     }
     if is_spelled(letters, b"ull") {
-        return Some(Suffix { unsigned: true, long: true });
+        return Some(Suffix {
+            unsigned: true,
+            long: true,
+        });
     }
     if is_spelled(letters, b"llu") {
-        return Some(Suffix { unsigned: true, long: true });
+        return Some(Suffix {
+            unsigned: true,
+            long: true,
+        });
     }
     None
 }

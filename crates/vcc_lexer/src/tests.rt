@@ -105,9 +105,15 @@ fn signs_are_the_longest(rt: HostRuntime) -> Result<(), AllocError> {
         ),
         ("<==><=<==", "Equivalent LessEqual LessEqual Assign "),
         ("<<=<==>=", "Less LessEqual Equivalent Assign "),
-        ("-->->-=---", "Decrement Greater Arrow SubtractAssign Decrement Minus "),
+        (
+            "-->->-=---",
+            "Decrement Greater Arrow SubtractAssign Decrement Minus ",
+        ),
         ("====>===>", "Equal Implies Equal Assign Greater "),
-        ("+++=&&&|||!!=>>=", "Increment AddAssign And Ampersand Or Bar Not NotEqual Greater GreaterEqual "),
+        (
+            "+++=&&&|||!!=>>=",
+            "Increment AddAssign And Ampersand Or Bar Not NotEqual Greater GreaterEqual ",
+        ),
         ("_(_x(__(_ (", "Annotation '_x' Open '__' Open '_' Open "),
         ("", ""),
     ] {
@@ -128,7 +134,10 @@ fn words_have_their_meaning(rt: HostRuntime) -> Result<(), AllocError> {
             "\\object \\claim \\span \\extent \\owns \\destroy_claim \\make_claim \\in \\true \\false \\this \\me \\result \\old \\unchanged \\mine \\wrapped \\wrapped0 \\mutable \\fresh \\claims_object \\claims \\closed \\owner \\claim_count \\forall \\exists",
             "Object Claim Span Extent Owns DestroyClaim MakeClaim In True False This Me Result Old Unchanged Mine Wrapped WrappedUnclaimed Mutable Fresh ClaimsObject Claims Closed Owner ClaimCount Forall Exists ",
         ),
-        ("While whiles int_ _int null x9", "'While' 'whiles' 'int_' '_int' 'null' 'x9' "),
+        (
+            "While whiles int_ _int null x9",
+            "'While' 'whiles' 'int_' '_int' 'null' 'x9' ",
+        ),
         ("\\wrapped1 \\a \\While\\in_", "other other other other "),
         ("\\mine(a) \\in b", "Mine Open 'a' Close In 'b' "),
     ] {
@@ -145,21 +154,39 @@ fn numbers_have_the_first_type_that_holds_them(rt: HostRuntime) -> Result<(), Al
         ("2147483647", "2147483647 Int "),
         ("2147483648", "2147483648 LongLong "),
         ("9223372036854775807", "9223372036854775807 LongLong "),
-        ("1ll 1lL 2147483647LL", "1 LongLong 1 LongLong 2147483647 LongLong "),
+        (
+            "1ll 1lL 2147483647LL",
+            "1 LongLong 1 LongLong 2147483647 LongLong ",
+        ),
         ("0u", "0 Unsigned "),
         ("4294967295U", "4294967295 Unsigned "),
         ("4294967296u", "4294967296 UnsignedLongLong "),
-        ("18446744073709551615u", "18446744073709551615 UnsignedLongLong "),
-        ("1ull 1llu 1uLl", "1 UnsignedLongLong 1 UnsignedLongLong 1 UnsignedLongLong "),
+        (
+            "18446744073709551615u",
+            "18446744073709551615 UnsignedLongLong ",
+        ),
+        (
+            "1ull 1llu 1uLl",
+            "1 UnsignedLongLong 1 UnsignedLongLong 1 UnsignedLongLong ",
+        ),
         ("0x0 0x7fffffff", "0 Int 2147483647 Int "),
         ("0x80000000", "2147483648 Unsigned "),
         ("0xFFFFFFFF", "4294967295 Unsigned "),
         ("0x100000000", "4294967296 LongLong "),
         ("0x7fffffffffffffff", "9223372036854775807 LongLong "),
-        ("0x8000000000000000", "9223372036854775808 UnsignedLongLong "),
-        ("0xffffffffffffffff", "18446744073709551615 UnsignedLongLong "),
+        (
+            "0x8000000000000000",
+            "9223372036854775808 UnsignedLongLong ",
+        ),
+        (
+            "0xffffffffffffffff",
+            "18446744073709551615 UnsignedLongLong ",
+        ),
         ("0x7fffffffffffffffll", "9223372036854775807 LongLong "),
-        ("0x8000000000000000ll", "9223372036854775808 UnsignedLongLong "),
+        (
+            "0x8000000000000000ll",
+            "9223372036854775808 UnsignedLongLong ",
+        ),
         ("0x100000000u", "4294967296 UnsignedLongLong "),
         ("0x1fu 0xAbCdEf", "31 Unsigned 11259375 Int "),
         ("1u2", "1 Unsigned 2 Int "),
@@ -259,9 +286,18 @@ fn places_count_every_byte(rt: HostRuntime) -> Result<(), AllocError> {
     for (source, want) in [
         ("", "end 1:1 0-0; "),
         ("\n", "end 2:1 1-1; "),
-        ("a\tb\r\n c", "'a' 1:1 0-1; 'b' 1:3 2-3; 'c' 2:2 6-7; end 2:3 7-7; "),
-        ("x/*\n\t*/y\rz", "'x' 1:1 0-1; 'y' 2:4 7-8; 'z' 2:6 9-10; end 2:7 10-10; "),
-        ("0x1f\\true->", "31 Int 1:1 0-4; True 1:5 4-9; Arrow 1:10 9-11; end 1:12 11-11; "),
+        (
+            "a\tb\r\n c",
+            "'a' 1:1 0-1; 'b' 1:3 2-3; 'c' 2:2 6-7; end 2:3 7-7; ",
+        ),
+        (
+            "x/*\n\t*/y\rz",
+            "'x' 1:1 0-1; 'y' 2:4 7-8; 'z' 2:6 9-10; end 2:7 10-10; ",
+        ),
+        (
+            "0x1f\\true->",
+            "31 Int 1:1 0-4; True 1:5 4-9; Arrow 1:10 9-11; end 1:12 11-11; ",
+        ),
         ("// a\r\nif", "If 2:1 6-8; end 2:3 8-8; "),
     ] {
         let got = places(rt.alloc(), source.as_bytes())?;
@@ -356,7 +392,10 @@ fn finds_as_many_tokens_as_there_may_be(rt: HostRuntime) -> Result<(), AllocErro
         line: 1,
         column: 262145,
     };
-    assert_eq!(rt; count(rt.alloc(), &more), Err(LexFault::TooManyTokens(place)));
+    assert_eq!(rt;
+        count(rt.alloc(), &more),
+        Err(LexFault::TooManyTokens(place))
+    );
     Ok(())
 }
 

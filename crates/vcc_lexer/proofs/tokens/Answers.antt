@@ -1,9 +1,8 @@
-use Rattle.std.proofs.Common.{◌≡◌, ℕ, ◌<◌, ◌≤◌, ◌+◌, List, [], ◌∷◌, ◌++◌, length, map, drop, take, refl, sym, ap, ◌∙◌, subst, cond, true, false, is_ok, Bool, Some, None, Option, arith, add-zero}
+use Rattle.std.proofs.Common.{◌≡◌, ℕ, ◌≤◌, List, [], ◌∷◌, ◌++◌, length, map, drop, take, sym, ap, ◌∙◌, subst, cond, true, false, is_ok, Bool, Some, None, Option, arith, add-zero}
 use Rattle.std.specs.Prelude.{◌==◌}
 use Rattle.std.proofs.lemmas.Bool.Decides.{nat_tests}
 use Rattle.std.proofs.lemmas.List.{map-append, length-map, length-append, nil_from_length}
 use Rattle.c_syntax.specs.declared.token.Token.{Token}
-use Rattle.c_syntax.specs.declared.token.TokenKind.TheVariants as k
 use Rattle.c_syntax.specs.declared.fault.LexFault.{LexFault}
 use Rattle.c_syntax.specs.Tokens as t
 use Rattle.c_syntax.specs.Tokens.{Word}
@@ -11,7 +10,7 @@ use Rattle.c_syntax.specs.Lexing as l
 use Rattle.c_syntax.specs.Lexing.{Position, Lexeme, Skips, IsFirst, Reaches, Lexes, IsFirstFault, IsFirstOrMemory, IsFault, first_position, lexeme, lexeme_at, most_tokens}
 use Rattle.vcc_lexer.specs.Places.{position}
 use Rattle.vcc_lexer.specs.Steps.{IsStepOf}
-use Rattle.vcc_lexer.proofs.Places.{Room, room_on}
+use Rattle.vcc_lexer.proofs.Places.{room_on}
 use Rattle.vcc_lexer.proofs.Reading.{skipped_on, token_on, moved_to, only_fault, first_fault, same_tokens, no_fault, fault_found}
 use Rattle.vcc_lexer.proofs.Slices.{token_texts}
 use Rattle.vcc_lexer.proofs.tokens.Goals as goal
@@ -100,4 +99,4 @@ pub returns-clause-first : goal.returns-clause-first
 returns-clause-first c =
     let new = pushed (is_ok c.push-2.result) c.loop-rest.found.items c.push-2.new.self.items _ c.if-is_err-2.ensures.negation c.push-2.ensures.items in
     λ b y. no_fault c.args.bytes.now b (map lexeme c.push-2.new.self.items) y (lexed c.args.bytes.now c.loop-rest.rest.now (position c.loop-rest.place) c.loop-rest.found.items c.push-2.new.self.items _ c.loop-rest.invariant.reaches (no_rest c.loop-rest.rest.now c.loop-rest-test.ensures) new (sym (end_lexeme (position c.loop-rest.place))))
-      (few_found c.loop-rest.found.items c.push-2.new.self.items _ new c.loop-rest.invariant.few)
+    (few_found c.loop-rest.found.items c.push-2.new.self.items _ new c.loop-rest.invariant.few)

@@ -1,7 +1,6 @@
-use Rattle.std.proofs.Common.{◌≡◌, ◌≢◌, false, true, length, get_or, sym, ap, ◌∙◌, subst, arith, rules}
+use Rattle.std.proofs.Common.{◌≡◌, false, length, get_or, sym, ap, ◌∙◌, subst}
 use Rattle.c_syntax.specs.Numbers.{is_letter, is_digit}
 use Rattle.c_syntax.specs.Tokens as t
-use Rattle.c_syntax.specs.Words.{sign_text}
 use Rattle.vcc_lexer.specs.First.{IsTaken}
 use Rattle.vcc_lexer.proofs.Longest.{sign_taken, bad_byte, no_name_by}
 use Rattle.vcc_lexer.proofs.first.first_token.Goals as goal

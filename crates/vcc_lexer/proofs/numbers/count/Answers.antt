@@ -1,5 +1,4 @@
-use Rattle.std.proofs.Common.{◌≡◌, ◌≤◌, length, arith}
-use Rattle.c_syntax.specs.Numbers.{prefix}
+use Rattle.std.proofs.Common.{arith}
 use Rattle.vcc_lexer.specs.NumberTexts.{base_of}
 use Rattle.vcc_lexer.proofs.Runs.{runs_from}
 use Rattle.vcc_lexer.proofs.numbers.count.Goals as goal

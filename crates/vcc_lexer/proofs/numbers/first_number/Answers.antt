@@ -1,7 +1,6 @@
-use Rattle.std.proofs.Common.{◌≡◌, ℕ, ◌+◌, List, length, true, ap, sym, ◌∙◌, subst}
-use Rattle.std.specs.Prelude.{All}
+use Rattle.std.proofs.Common.{◌≡◌, ℕ, ◌+◌, true, sym, subst}
 use Rattle.std.proofs.lemmas.List.Elements.{All-same}
-use Rattle.c_syntax.specs.Numbers.{prefix, is_digit_of}
+use Rattle.c_syntax.specs.Numbers.{is_digit_of}
 use Rattle.c_syntax.specs.Tokens as t
 use Rattle.vcc_lexer.specs.First.{IsTaken}
 use Rattle.vcc_lexer.specs.NumberTexts.{base_of}
@@ -32,4 +31,4 @@ returns c =
     let digits = digits_cut base d c.prefix_length-prefix.result c.args.text.now c.split_at.result.1.now c.split_at-2.result.0.now c.prefix_length-prefix.ensures c.split_at.ensures.back c.split_at-2.ensures.front in
     let letters = letters_cut base d l c.prefix_length-prefix.result c.args.text.now c.split_at.result.1.now c.split_at-2.result.1.now c.split_at-3.result.0.now c.prefix_length-prefix.ensures c.split_at.ensures.back c.split_at-2.ensures.back c.split_at-3.ensures.front in
     subst (λ p. IsTaken c.args.text.now (t.Number c.in-Some.value c.in-Some.ty) (p + d + l)) (sym c.prefix_length-prefix.ensures)
-      (number_taken base d l c.args.text.now c.in-Some.value c.in-Some.ty c.number_counts-counts.ensures (writes_cut base c.split_at-2.result.0.now c.split_at-3.result.0.now (digits_in base d c.args.text.now) (letters_in base d l c.args.text.now) c.in-Some.value c.in-Some.ty digits letters c.in-Some.ensures))
+    (number_taken base d l c.args.text.now c.in-Some.value c.in-Some.ty c.number_counts-counts.ensures (writes_cut base c.split_at-2.result.0.now c.split_at-3.result.0.now (digits_in base d c.args.text.now) (letters_in base d l c.args.text.now) c.in-Some.value c.in-Some.ty digits letters c.in-Some.ensures))

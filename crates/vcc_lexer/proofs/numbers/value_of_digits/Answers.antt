@@ -1,5 +1,4 @@
-use Rattle.std.proofs.Common.{◌≡◌, ◌+◌, ◌*◌, ◌≤◌, get_or, ap, sym, ◌∙◌, arith}
-use Rattle.std.specs.Char.{digit_value}
+use Rattle.std.proofs.Common.{◌≡◌, ◌+◌, ◌*◌, ap, sym, ◌∙◌, arith}
 use Rattle.c_syntax.specs.Numbers.{radix}
 use Rattle.vcc_lexer.specs.NumberTexts.{base_of}
 use Rattle.vcc_lexer.proofs.DigitValues.{too_large, too_large_sum, one_more}

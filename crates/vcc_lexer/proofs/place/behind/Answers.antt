@@ -1,4 +1,4 @@
-use Rattle.std.proofs.Common.{◌≡◌, ◌∙◌, ap, sym, subst, arith, get_or, length, ◌+◌}
+use Rattle.std.proofs.Common.{◌∙◌, ap, sym, subst, arith, get_or}
 use Rattle.c_syntax.specs.Lexing.{Position, behind_byte}
 use Rattle.vcc_lexer.specs.Places.{position}
 use Rattle.vcc_lexer.proofs.Places.{behind_more, near_byte, Near}

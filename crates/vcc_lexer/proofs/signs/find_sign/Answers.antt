@@ -1,4 +1,4 @@
-use Rattle.std.proofs.Common.{◌≡◌, ◌<◌, ℕ, get_or, length, sym, refl}
+use Rattle.std.proofs.Common.{get_or, sym}
 use Rattle.std.proofs.lemmas.List.{take_all, get_or_default}
 use Rattle.std.proofs.lemmas.List.Elements.{All-more, All-same}
 use Rattle.c_syntax.specs.declared.token.Sign.TheVariants as s

@@ -1,7 +1,4 @@
-use Rattle.std.proofs.Common.{Some, None}
-use Rattle.vcc_lexer.specs.First.{NotBegins}
-use Rattle.vcc_lexer.proofs.SignTables.{each_sign}
-use Rattle.vcc_lexer.proofs.SignChoice.{long_longest, two_longest, one_longest, last_choice}
+use Rattle.vcc_lexer.proofs.SignChoice.{long_longest, two_longest, last_choice}
 use Rattle.vcc_lexer.proofs.signs.first_sign.Goals as goal
 
 pub returns-in-Some : goal.returns-in-Some
