@@ -1,9 +1,9 @@
 -- There is one token first, and one way to skip: what a text is can be read in one way only.
-use Rattle.std.proofs.Common.{◌≡◌, ◌≢◌, ℕ, suc, ◌<◌, ◌≤◌, ◌+◌, true, List, [], ◌∷◌, ◌++◌, length, get_or, take, drop, refl, sym, ap, ◌∙◌, subst, inl, inr, arith}
+use Rattle.std.proofs.Common.{◌≡◌, ◌≢◌, ℕ, suc, ◌<◌, ◌+◌, true, List, [], ◌∷◌, ◌++◌, length, get_or, take, drop, refl, sym, ap, ◌∙◌, subst, inl, inr, arith}
 use Rattle.std.specs.Prelude.{All, codes, if◌then◌else◌, ◌==◌}
 use Rattle.std.proofs.lemmas.Bool.{cases_lt}
 use Rattle.std.proofs.lemmas.Bool.Decides.{nat_tests}
-use Rattle.std.proofs.lemmas.List.{get_or_past, length-take, get_or-take, length-append, get_or_append_left, append_assoc, drop_more, take-append-drop}
+use Rattle.std.proofs.lemmas.List.{get_or_past, length-take, get_or-take, length-append, get_or_append_left, append_assoc}
 use Rattle.std.proofs.lemmas.List.Elements.{All-get_or, All-head, All-tail}
 use Rattle.c_syntax.specs.declared.token.Sign.{Sign}
 use Rattle.c_syntax.specs.declared.token.Sign.TheVariants as s
@@ -19,7 +19,7 @@ use Rattle.vcc_lexer.proofs.SignTables.{same_sign, first_of}
 use Rattle.vcc_lexer.proofs.Forms as f
 use Rattle.vcc_lexer.proofs.Forms.{Form, form_of, shape_digit, shape_some, word_text, letter_begins}
 use Rattle.vcc_lexer.proofs.Shapes.{same_number}
-use Rattle.vcc_lexer.proofs.Skipping.{end_at}
+use Rattle.vcc_lexer.proofs.Skipping.{end_at, cut, blank_past}
 
 -- ---- one token
 
@@ -223,26 +223,11 @@ kind_of (l.comment body rest e h m) = block (ap (λ (w : List ℕ). get_or w 0 0
 kind_of (l.line_comment body rest e all ends m) = line (ap (λ (w : List ℕ). get_or w 0 0) e) (ap (λ (w : List ℕ). get_or w 1 0) e)
 kind_of (l.include rest e column ends m) = include (ap (λ (w : List ℕ). get_or w 0 0) e)
 
-blank_low : (b : ℕ) → IsBlank b → b ≤ 32
-blank_low b (inl e) = omega arith
-blank_low b (inr (inl e)) = omega arith
-blank_low b (inr (inr (inl e))) = omega arith
-blank_low b (inr (inr (inr e))) = omega arith
-
 pub no_token : (text : List ℕ) → Kind text → (word : Word) (m : ℕ) → IsFirst text word m → ⊥
-no_token text (blank b) word m h = let x = starts text m h.longest.is in let y = blank_low (get_or text 0 0) b in let z = x.2 in omega arith
+no_token text (blank b) word m h = blank_past (get_or text 0 0) (starts text m h.longest.is).2 b
 no_token text (block a b) word m h = h.code (a, inl b)
 no_token text (line a b) word m h = h.code (a, inr b)
 no_token text (include a) word m h = (starts text m h.longest.is).3 a
-
--- where a `*/` stands in a text, the text is cut by it
-cut : (text : List ℕ) (n : ℕ) → n + 1 < length text → get_or text n 0 ≡ 42 → get_or text (n + 1) 0 ≡ 47 → text ≡ take n text ++ codes "*/" ++ drop (n + 2) text
-cut text n lt star slash =
-    let first : drop n text ≡ 42 ∷ drop (n + 1) text = drop_more text n 0 (omega arith) ∙ ap (λ b. b ∷ drop (n + 1) text) star in
-    let next : drop (n + 1) text ≡ 47 ∷ drop (n + 1 + 1) text = drop_more text (n + 1) 0 lt ∙ ap (λ b. b ∷ drop (n + 1 + 1) text) slash in
-    let two : n + 1 + 1 ≡ n + 2 = omega arith in
-    let whole : text ≡ take n text ++ (42 ∷ 47 ∷ drop (n + 2) text) = sym (take-append-drop n text) ∙ ap (λ (w : List ℕ). take n text ++ w) (first ∙ ap (λ (w : List ℕ). 42 ∷ w) (next ∙ ap (λ k. 47 ∷ drop k text) two)) in
-    whole ∙ sym (append_assoc (take n text) (codes "*/") (drop (n + 2) text))
 
 -- a body without end holds no `*/` at any place
 ends_inside : (text a c d : List ℕ) → get_or text (length a) 0 ≡ 42 → get_or text (length a + 1) 0 ≡ 47 → text ≡ c ++ codes "*/" ++ d → HasNoEnd c → length a + 1 < length c → ⊥
@@ -280,7 +265,7 @@ same_line (x ∷ a) b (y ∷ c) d e ha hc hb hd =
     let rest : a ++ b ≡ c ++ d = cc in
     ap suc (same_line a b c d rest (All-tail (λ z. z ≢ 10) x a ha) (All-tail (λ z. z ≢ 10) y c hc) hb hd)
 
-behind_two : (a b : ℕ) (x y : List ℕ) → a ∷ b ∷ x ≡ a ∷ b ∷ y → x ≡ y
+pub behind_two : (a b : ℕ) (x y : List ℕ) → a ∷ b ∷ x ≡ a ∷ b ∷ y → x ≡ y
 behind_two a b x y e = cc
 
 -- what is skipped by its first two bytes: a blank, a comment of either kind, the include line

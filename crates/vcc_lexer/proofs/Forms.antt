@@ -25,7 +25,7 @@ and_right false b h = absurd cc
 pub letter_begins : (b : ℕ) → is_letter b ≡ true → begins_name b ≡ true
 letter_begins b h = grind (arith, nat_tests)
 
-begins_goes : (b : ℕ) → begins_name b ≡ true → is_name_byte b ≡ true
+pub begins_goes : (b : ℕ) → begins_name b ≡ true → is_name_byte b ≡ true
 begins_goes b h = grind (arith, nat_tests)
 
 -- a name that begins with a letter

@@ -18,14 +18,11 @@ use Rattle.vcc_lexer.specs.declared.bytes.Class.TheVariants as c
 use Rattle.vcc_lexer.proofs.Runs.{IsRun, stops}
 use Rattle.vcc_lexer.proofs.SignTables.{first_of}
 use Rattle.vcc_lexer.proofs.Forms as f
-use Rattle.vcc_lexer.proofs.Forms.{Form, form_of, shape_digit, shape_some, letter_begins}
+use Rattle.vcc_lexer.proofs.Forms.{begins_goes, Form, form_of, shape_digit, shape_some, letter_begins}
 use Rattle.vcc_lexer.proofs.Shapes.{digit_no_name, digit_no_slash}
 
 slash_no_name : (b : ℕ) → b ≡ 92 → begins_name b ≡ true → ⊥
 slash_no_name b e h = grind (arith, nat_tests)
-
-pub begins_goes : (b : ℕ) → begins_name b ≡ true → is_name_byte b ≡ true
-begins_goes b h = grind (arith, nat_tests)
 
 -- a sign that is the front of the text begins it
 pub sign_begins : (text : List ℕ) (m : ℕ) (x : Sign) → take m text ≡ sign_text x → Begins text x

@@ -17,7 +17,8 @@ use Rattle.vcc_lexer.specs.Gaps.{IsBlank}
 use Rattle.vcc_lexer.proofs.SignTables.{first_of}
 use Rattle.vcc_lexer.proofs.Forms as form
 use Rattle.vcc_lexer.proofs.Forms.{Form, form_of, shape_digit}
-use Rattle.vcc_lexer.proofs.Determined.{same_skip, same_first, same_length, no_token, kind_of, starts}
+use Rattle.vcc_lexer.proofs.Skipping.{blank_past}
+use Rattle.vcc_lexer.proofs.Determined.{behind_two, same_skip, same_first, same_length, no_token, kind_of, starts}
 
 -- ---- along a text
 
@@ -108,9 +109,6 @@ blank_no_slash b e (inr (inl h)) = omega arith
 blank_no_slash b e (inr (inr (inl h))) = omega arith
 blank_no_slash b e (inr (inr (inr h))) = omega arith
 
-behind_two : (a b : ℕ) (x y : List ℕ) → a ∷ b ∷ x ≡ a ∷ b ∷ y → x ≡ y
-behind_two a b x y e = cc
-
 -- what begins with `/` is the sign or a comment
 slash_token : (text : List ℕ) (n : ℕ) → get_or text 0 0 ≡ 47 → IsLexical (take n text) → IsToken (t.Mark s.Slash) (take n text)
 slash_token text n e h = go (form_of (take n text) h)
@@ -129,12 +127,6 @@ slash_is text rest n e h = slash_token text n (ap (λ (w : List ℕ). get_or w 0
 
 line_slash : (text rest : List ℕ) (n : ℕ) → text ≡ codes "//" ++ rest → IsLexical (take n text) → IsToken (t.Mark s.Slash) (take n text)
 line_slash text rest n e h = slash_token text n (ap (λ (w : List ℕ). get_or w 0 0) e) h
-
-blank_past : (b : ℕ) → 32 < b → IsBlank b → ⊥
-blank_past b lt (inl h) = omega arith
-blank_past b lt (inr (inl h)) = omega arith
-blank_past b lt (inr (inr (inl h))) = omega arith
-blank_past b lt (inr (inr (inr h))) = omega arith
 
 one_slash : (text rest : List ℕ) → text ≡ codes "/*" ++ rest → IsLexical (take 1 text)
 one_slash text rest e = inl (t.Mark s.Slash, ap (λ (w : List ℕ). take 1 w) e)

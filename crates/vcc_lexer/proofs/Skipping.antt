@@ -52,14 +52,19 @@ front_no_end text n none = λ a b e.
 second_within : (text : List ℕ) (n : ℕ) → get_or text n 0 ≡ 47 → n < length text
 second_within text n e = elim (cases_lt n (length text)) [ inl lt ↦ lt | inr le ↦ absurd (omega (arith, get_or_past text n 0 le)) ]
 
+-- where a `*/` stands in a text, the text is cut by it
+pub cut : (text : List ℕ) (n : ℕ) → n + 1 < length text → get_or text n 0 ≡ 42 → get_or text (n + 1) 0 ≡ 47 → text ≡ take n text ++ codes "*/" ++ drop (n + 2) text
+cut text n lt star slash =
+    let first : drop n text ≡ 42 ∷ drop (n + 1) text = drop_more text n 0 (omega arith) ∙ ap (λ b. b ∷ drop (n + 1) text) star in
+    let next : drop (n + 1) text ≡ 47 ∷ drop (n + 1 + 1) text = drop_more text (n + 1) 0 lt ∙ ap (λ b. b ∷ drop (n + 1 + 1) text) slash in
+    let two : n + 1 + 1 ≡ n + 2 = omega arith in
+    let whole : text ≡ take n text ++ (42 ∷ 47 ∷ drop (n + 2) text) = sym (take-append-drop n text) ∙ ap (λ (w : List ℕ). take n text ++ w) (first ∙ ap (λ (w : List ℕ). 42 ∷ w) (next ∙ ap (λ k. 47 ∷ drop k text) two)) in
+    whole ∙ sym (append_assoc (take n text) (codes "*/") (drop (n + 2) text))
+
 pub body_found : (text : List ℕ) (n : ℕ) → n < length text → get_or text n 0 ≡ 42 → get_or text (n + 1) 0 ≡ 47 → NoEndBelow n text → IsBody text n
 body_found text n lt star slash none =
     let second : n + 1 < length text = second_within text (n + 1) slash in
-    let first : drop n text ≡ 42 ∷ drop (n + 1) text = drop_more text n 0 lt ∙ ap (λ b. b ∷ drop (n + 1) text) star in
-    let next : drop (n + 1) text ≡ 47 ∷ drop (n + 1 + 1) text = drop_more text (n + 1) 0 second ∙ ap (λ b. b ∷ drop (n + 1 + 1) text) slash in
-    let two : n + 1 + 1 ≡ n + 2 = omega arith in
-    let whole : text ≡ take n text ++ (42 ∷ 47 ∷ drop (n + 2) text) = sym (take-append-drop n text) ∙ ap (λ (w : List ℕ). take n text ++ w) (first ∙ ap (λ (w : List ℕ). 42 ∷ w) (next ∙ ap (λ k. 47 ∷ drop k text) two)) in
-    record { within = omega arith; whole = whole ∙ sym (append_assoc (take n text) (codes "*/") (drop (n + 2) text)); none = front_no_end text n none }
+    record { within = omega arith; whole = cut text n second star slash; none = front_no_end text n none }
 
 pub block_skips : (p : Position) (text body : List ℕ) (n : ℕ) → text ≡ codes "/*" ++ body → IsBody body n → Skips p text (n + 4)
 block_skips p text body n e h =
@@ -91,11 +96,12 @@ skip_head (s.comment body rest e h m) = inr (inl (body ++ codes "*/" ++ rest, e)
 skip_head (s.line_comment body rest e all ends m) = inr (inr (inl (body ++ rest, e)))
 skip_head (s.include rest e column ends m) = inr (inr (inr (rest, e, ends)))
 
-blank_not : (b : ℕ) → 32 < b → IsBlank b → ⊥
-blank_not b lt (inl e) = omega arith
-blank_not b lt (inr (inl e)) = omega arith
-blank_not b lt (inr (inr (inl e))) = omega arith
-blank_not b lt (inr (inr (inr e))) = omega arith
+-- a blank is a low byte
+pub blank_past : (b : ℕ) → 32 < b → IsBlank b → ⊥
+blank_past b lt (inl e) = omega arith
+blank_past b lt (inr (inl e)) = omega arith
+blank_past b lt (inr (inr (inl e))) = omega arith
+blank_past b lt (inr (inr (inr e))) = omega arith
 
 head_of : (text front rest : List ℕ) (b : ℕ) → text ≡ b ∷ front ++ rest → get_or text 0 0 ≡ b
 head_of text front rest b e = ap (λ (w : List ℕ). get_or w 0 0) e
@@ -103,7 +109,7 @@ head_of text front rest b e = ap (λ (w : List ℕ). get_or w 0 0) e
 pub no_include : (column : ℕ) (text : List ℕ) → get_or text 0 0 ≡ 35 → ((rest : List ℕ) → text ≢ codes "#include <vcc.h>" ++ rest) → ((p : Position) (n : ℕ) → p.place.column ≡ column → Skips p text n → ⊥) × (BeginsComment text → ⊥)
 no_include column text head none = (
   λ p n e skips. elim (skip_head skips) [
-    | inl b ↦ blank_not (get_or text 0 0) (omega arith) b
+    | inl b ↦ blank_past (get_or text 0 0) (omega arith) b
     | inr more ↦ elim more [
       | inl block ↦ let at : get_or text 0 0 ≡ 47 = ap (λ (w : List ℕ). get_or w 0 0) block.1 in omega arith
       | inr more' ↦ elim more' [

@@ -4,7 +4,7 @@ use Rattle.c_syntax.specs.declared.token.Sign.{Sign}
 use Rattle.c_syntax.specs.Words.{sign_text}
 use Rattle.c_syntax.specs.Tokens.{Word, IsToken, IsLongest}
 
--- the text begins with this sign, or with a longer token
+-- the text begins with the bytes of this sign
 abbrev pub Begins : List ℕ → Sign → Type 0
 Begins text x = (rest : List ℕ) × (text ≡ sign_text x ++ rest)
 
