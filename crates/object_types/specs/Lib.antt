@@ -1,1 +1,6 @@
+pub mod References
+pub mod Values
+pub mod Sets
+pub mod Shapes
 pub mod Heap
+pub mod Content
