@@ -2,6 +2,7 @@
 use Rattle.std.specs.Prelude.{Bool, true, false, not, ◌&&◌, ◌||◌, if◌then◌else◌, List, [], ◌∷◌, filter}
 use Rattle.object_types.specs.declared.references.Ref.{Ref}
 use Rattle.object_types.specs.References.{same_ref, ref_lt}
+use Rattle.object_types.specs.Places.{placed}
 
 abbrev pub every : {X : Type 0} → (X → Bool) → List X → Bool
 every test [] = true
@@ -16,8 +17,7 @@ is_in q [] = false
 is_in q (r ∷ rs) = same_ref q r || is_in q rs
 
 abbrev pub with_member : Ref → List Ref → List Ref
-with_member r [] = r ∷ []
-with_member r (q ∷ qs) = if same_ref r q then q ∷ qs else (if ref_lt r q then r ∷ q ∷ qs else q ∷ with_member r qs)
+with_member = placed ref_lt same_ref
 
 abbrev pub without_member : Ref → List Ref → List Ref
 without_member r = filter (λ q. not (same_ref q r))
@@ -29,15 +29,6 @@ set_member r holds set = if holds then with_member r set else without_member r s
 abbrev pub set_of : List Ref → List Ref
 set_of [] = []
 set_of (r ∷ rs) = with_member r (set_of rs)
-
-abbrev pub ordered_from : {X : Type 0} → (X → X → Bool) → X → List X → Bool
-ordered_from before x [] = true
-ordered_from before x (y ∷ ys) = before x y && ordered_from before y ys
-
--- each before the next
-abbrev pub is_ordered : {X : Type 0} → (X → X → Bool) → List X → Bool
-is_ordered before [] = true
-is_ordered before (x ∷ xs) = ordered_from before x xs
 
 abbrev pub all_distinct : List Ref → Bool
 all_distinct [] = true

@@ -2,6 +2,7 @@
 use Rattle.std.specs.Prelude.{Bool, not, ◌&&◌, ◌||◌, ◌==◌, nat_lt, if◌then◌else◌, List, [], ◌∷◌, filter}
 use Rattle.object_types.specs.declared.shapes.Entry.{Entry}
 use Rattle.object_types.specs.Values.{same_values, values_lt}
+use Rattle.object_types.specs.Places.{placed}
 use Rattle.object_types.specs.Sets.{some}
 
 abbrev pub entry_lt : Entry → Entry → Bool
@@ -14,8 +15,7 @@ abbrev pub has_entry : Entry → List Entry → Bool
 has_entry e es = some (same_entry e) es
 
 abbrev pub with_entry : Entry → List Entry → List Entry
-with_entry e [] = e ∷ []
-with_entry e (d ∷ ds) = if same_entry e d then d ∷ ds else (if entry_lt e d then e ∷ d ∷ ds else d ∷ with_entry e ds)
+with_entry = placed entry_lt same_entry
 
 abbrev pub without_entry : Entry → List Entry → List Entry
 without_entry e = filter (λ d. not (same_entry d e))

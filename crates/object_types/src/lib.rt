@@ -3,5 +3,6 @@
 
 pub mod references;
 pub mod values;
+pub mod sets;
 pub mod shapes;
 pub mod records;

@@ -1,0 +1,4 @@
+pub mod Orders
+pub mod Placed
+pub mod Rows
+pub mod Members
