@@ -2,3 +2,5 @@ pub mod Orders
 pub mod Placed
 pub mod Rows
 pub mod Members
+pub mod Entries
+pub mod FieldChanges

@@ -5,3 +5,5 @@ pub mod Sets
 pub mod Shapes
 pub mod Heap
 pub mod Content
+pub mod Fields
+pub mod Lookups

@@ -4,5 +4,6 @@
 pub mod references;
 pub mod values;
 pub mod sets;
+pub mod fields;
 pub mod shapes;
 pub mod records;
