@@ -4,3 +4,5 @@ pub mod Rows
 pub mod Members
 pub mod Entries
 pub mod FieldChanges
+pub mod RecordChanges
+pub mod HeapChanges

@@ -36,12 +36,12 @@ abbrev pub empty_heap : Heap
 empty_heap = record { get = (λ o. nothing); support = [] }
 
 -- the records with another one at p
-unfoldable pub put_at : (Ref → Record) → Ref → Record → Ref → Record
+abbrev pub put_at : (Ref → Record) → Ref → Record → Ref → Record
 put_at get p new o = if same_ref o p then new else get o
 
 -- the heap with another record at p
 unfoldable pub put : Heap → Ref → Record → Heap
-put h p new = record { get = (λ o. if same_ref o p then new else h.get o); support = p ∷ h.support }
+put h p new = record { get = put_at h.get p new; support = p ∷ h.support }
 
 -- the heap where the members have another owner
 unfoldable pub hand_over : Heap → List Ref → Ref → Heap

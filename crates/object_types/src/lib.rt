@@ -7,3 +7,4 @@ pub mod sets;
 pub mod fields;
 pub mod shapes;
 pub mod records;
+pub mod heap;
