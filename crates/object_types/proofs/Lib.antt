@@ -6,3 +6,5 @@ pub mod Entries
 pub mod FieldChanges
 pub mod RecordChanges
 pub mod HeapChanges
+pub mod Equal
+pub mod Present

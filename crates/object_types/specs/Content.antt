@@ -1,5 +1,5 @@
 -- What the records of a heap say about one reference among all, and about two heaps at one reference. `get` is a heap's records. Own.
-use Rattle.std.specs.Prelude.{◌≡◌, ◌≢◌, ℕ, ◌-◌, ◌≤◌, IsTrue, IsFalse}
+use Rattle.std.specs.Prelude.{◌≡◌, ◌≢◌, ℕ, ◌-◌, ◌<◌, ◌≤◌, IsTrue, IsFalse}
 use Rattle.object_types.specs.declared.references.Ref.{Ref}
 use Rattle.object_types.specs.References.{ref, ref_lt}
 use Rattle.object_types.specs.Heap.{Record, nothing, is_absent}
@@ -23,3 +23,9 @@ pub record IsFirst (get : Ref → Record) (from r : Ref) : Type 0 where
   pub at_or_above : IsFalse (ref_lt r from)
   pub something : get r ≢ nothing
   pub nothing_before : (q : Ref) → IsFalse (ref_lt q from) → IsTrue (ref_lt q r) → get q ≡ nothing
+
+-- the greatest serial of the type below the greatest of 32 bits, at which the mode isn't absent
+pub record IsNewest (get : Ref → Record) (ty serial : ℕ) : Type 0 where
+  pub below_last : serial < 4294967295
+  pub present : IsFalse (is_absent (get (ref ty serial)).mode)
+  pub above : (s : ℕ) → serial < s → s < 4294967295 → IsTrue (is_absent (get (ref ty s)).mode)

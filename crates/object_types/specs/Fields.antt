@@ -1,10 +1,10 @@
 -- The fields of a record that are kept: those other than 0 and NULL, each once, in the order of their numbers. Own.
-use Rattle.std.specs.Prelude.{ℕ, Bool, not, ◌==◌, nat_lt, if◌then◌else◌, List, Option}
+use Rattle.std.specs.Prelude.{ℕ, Bool, not, ◌&&◌, ◌==◌, nat_lt, if◌then◌else◌, List, Option}
 use Rattle.std.specs.List.{find}
 use Rattle.std.specs.Option.{option_map}
 use Rattle.object_types.specs.declared.values.Value.{Value}
 use Rattle.object_types.specs.declared.fields.Kept.{Kept}
-use Rattle.object_types.specs.Values.{is_zero}
+use Rattle.object_types.specs.Values.{is_zero, same_value}
 use Rattle.object_types.specs.Places.{replaced, taken_out}
 
 abbrev pub field_of : Kept → ℕ
@@ -12,6 +12,9 @@ field_of k = k.field
 
 abbrev pub same_field : ℕ → ℕ → Bool
 same_field a b = a == b
+
+abbrev pub same_kept : Kept → Kept → Bool
+same_kept a b = (a.field == b.field) && same_value a.value b.value
 
 abbrev pub kept_lt : Kept → Kept → Bool
 kept_lt a b = nat_lt a.field b.field

@@ -1,5 +1,5 @@
 -- The code's heap: a list of stored records in reference order, each reference once, read as a heap. Own.
-use Rattle.std.specs.Prelude.{◌≡◌, ℕ, ◌^◌, Bool, true, ◌&&◌, nat_lt, List, map, Option, Some, None}
+use Rattle.std.specs.Prelude.{◌≡◌, ℕ, ◌^◌, Bool, true, ◌&&◌, nat_lt, ◌==◌, List, length, map, Option, Some, None}
 use Rattle.std.specs.List.{find}
 use Rattle.object_types.specs.declared.references.Ref.{Ref}
 use Rattle.object_types.specs.declared.values.Value.{Value}
@@ -8,12 +8,13 @@ use Rattle.object_types.specs.declared.records.Mode.{Mode}
 use Rattle.object_types.specs.declared.records.Stored.{Stored}
 use Rattle.object_types.specs.declared.records.Change.{Change}
 use Rattle.object_types.specs.declared.records.Change.TheVariants.{Status, Count, Field, Owned, Listed, Shape}
-use Rattle.object_types.specs.References.{same_ref, ref_lt}
+use Rattle.object_types.specs.References.{same_ref, ref_lt, is_null}
+use Rattle.object_types.specs.Values.{is_zero_int}
 use Rattle.object_types.specs.Places.{is_ordered}
 use Rattle.object_types.specs.Sets.{every}
 use Rattle.object_types.specs.Shapes.{entry_lt}
 use Rattle.object_types.specs.Fields.{kept_lt, is_set, field_in}
-use Rattle.object_types.specs.Heap.{Record, Heap, nothing, with_status, with_count, with_field, with_owned, with_listed, with_shape}
+use Rattle.object_types.specs.Heap.{Record, Heap, nothing, is_absent, with_status, with_count, with_field, with_owned, with_listed, with_shape}
 
 abbrev pub reference_of : Stored → Ref
 reference_of s = s.reference
@@ -49,6 +50,10 @@ changed (Shape entry holds) r = with_shape entry holds r
 -- sets and rows in order, no kept field 0 or NULL, a serial of 32 bits
 abbrev pub is_tidy : Stored → Bool
 is_tidy s = nat_lt s.reference.serial (2 ^ 32) && (is_ordered ref_lt s.owned && (is_ordered ref_lt s.listed && (is_ordered kept_lt s.fields && (every is_set s.fields && is_ordered entry_lt s.shapes))))
+
+-- what is stored says nothing: as if nothing stood there
+abbrev pub is_blank : Stored → Bool
+is_blank s = is_absent s.mode && is_null s.owner && is_zero_int s.count && length s.owned == 0 && length s.fields == 0 && length s.listed == 0 && length s.shapes == 0
 
 -- what every heap of the code keeps: each reference once and in order, and every record tidy
 pub record IsKept (stored : List Stored) : Type 0 where

@@ -1,9 +1,9 @@
 //! The fields of an object.
 
-ghost use Rattle.std.specs.Prelude.{◌≡◌, ◌≤◌, List, [], OnOk, OnErr, IfOk, IfErr, IsTrue, length, nat_lt};
+ghost use Rattle.std.specs.Prelude.{◌≡◌, ◌≤◌, ◌↔◌, List, [], OnOk, OnErr, IfOk, IfErr, IsTrue, length, nat_lt};
 ghost use Rattle.object_types.specs.Places.{is_ordered, place, IsAt, GoesAt};
 ghost use Rattle.object_types.specs.Sets.{every};
-ghost use Rattle.object_types.specs.Fields.{field_of, same_field, kept_lt, is_set, field_in, with_kept};
+ghost use Rattle.object_types.specs.Fields.{field_of, same_field, same_kept, kept_lt, is_set, field_in, with_kept};
 
 use crate::values::Value;
 use std::alloc::{AllocError, Global};
@@ -14,6 +14,15 @@ use std::marker::Model;
 pub struct Kept {
     pub field: u32,
     pub value: Value,
+}
+
+impl Kept {
+    /// Whether the two are one field with one value.
+    fn is_same(self, other: Kept) -> bool
+        ensures { result ≡ same_kept self other }
+    {
+        self.field == other.field && self.value.is_same(other.value)
+    }
 }
 
 /// The fields that are kept; contracts see them in the order of their numbers.
@@ -48,7 +57,8 @@ impl Fields {
 
     /// The fields that are kept, in the order of their numbers.
     pub fn as_slice(&self) -> &[Kept]
-        ensures { result.now ≡ self.now }
+        ensures list { result.now ≡ self.now }
+        ensures ordered { IsTrue (is_ordered kept_lt result.now) }
     {
         &self.kept
     }
@@ -124,4 +134,19 @@ impl Fields {
             kept: Vec::from_slice(*self.kept.allocator(), &self.kept)?,
         })
     }
+}
+
+/// Whether the two keep the same.
+pub fn same_fields(left: &[Kept], right: &[Kept]) -> bool
+    ensures { IsTrue result ↔ (left.now ≡ right.now) }
+{
+    if left.len() != right.len() {
+        return false;
+    }
+    for i in 0..left.len() {
+        if !left[i].is_same(right[i]) {
+            return false;
+        }
+    }
+    true
 }

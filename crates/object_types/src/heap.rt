@@ -1,15 +1,20 @@
 //! Heaps: finite maps from references to records.
 
-ghost use Rattle.std.specs.Prelude.{◌≡◌, ◌≤◌, List, [], OnOk, OnErr, IfOk, IfErr, IfSome, IfNone, IsTrue, length};
-ghost use Rattle.object_types.specs.References.{ref_lt, same_ref};
+ghost use Rattle.std.specs.Prelude.{◌≡◌, ◌≤◌, ◌<◌, ◌↔◌, ℕ, List, [], OnOk, OnErr, IfOk, IfErr, IfSome, IfNone, IsNone, IsTrue, IsFalse, length};
+ghost use Rattle.object_types.specs.declared.references.Ref.{Ref as Reference};
+ghost use Rattle.object_types.specs.References.{ref, ref_lt, same_ref};
 ghost use Rattle.object_types.specs.Values.{is_zero, or_zero};
-ghost use Rattle.object_types.specs.Places.{place, IsAt, GoesAt};
-ghost use Rattle.object_types.specs.Heap.{nothing, put_at, with_status, with_count, with_field, with_owned, with_listed, with_shape};
+ghost use Rattle.object_types.specs.Places.{is_ordered, place, IsAt, GoesAt};
+ghost use Rattle.object_types.specs.Heap.{nothing, is_absent, put_at, with_status, with_count, with_field, with_owned, with_listed, with_shape};
+ghost use Rattle.object_types.specs.Fields.{kept_lt, field_in};
+ghost use Rattle.object_types.specs.Content.{IsFresh, IsNewest, IsFirst, SameContent};
 ghost use Rattle.object_types.specs.Lookups.{reference_of, record_of, look_up, changed, IsKept};
 
+use crate::fields::{Kept, same_fields};
 use crate::records::{Change, Mode, RecordView, Stored};
 use crate::references::{NULL, Ref};
-use crate::shapes::Entry;
+use crate::sets::same_members;
+use crate::shapes::{Entry, same_conjuncts};
 use crate::values::{Value, Values};
 use std::alloc::{AllocError, Global};
 use std::marker::Model;
@@ -214,5 +219,100 @@ impl Heap {
     {
         let values = Values::from_slice(*self.records.allocator(), values)?;
         self.change(c, Change::Shape(Entry { shape, values }, holds))
+    }
+
+    /// An equal heap.
+    pub fn copy(&self) -> Result<Heap, AllocError>
+        ensures { IfOk result (λ h. h ≡ self.now) }
+    {
+        let mut records = Vec::new(*self.records.allocator());
+        let all = self.records.as_slice();
+        for stored in all {
+            records.push(stored.copy()?)?;
+        }
+        Ok(Heap { records })
+    }
+
+    /// The first reference from `from` on, in reference order, at which something stands.
+    pub fn first(&self, from: Ref) -> Option<Ref>
+        ensures some { IfSome result (λ r. IsFirst (look_up self.now) from r) }
+        ensures none { IfNone result ((q : Reference) → IsFalse (ref_lt q from) → look_up self.now q ≡ nothing) }
+    {
+        let mut i = self.place(from);
+        while i < self.records.len() {
+            let stored = &self.records[i];
+            if !stored.is_blank() {
+                return Some(stored.reference);
+            }
+            i += 1;
+        }
+        None
+    }
+
+    /// The greatest serial of the type below the greatest of all, at which the mode isn't absent.
+    fn newest(&self, ty: u32) -> Option<u32>
+        ensures some { IfSome result (λ s. IsNewest (look_up self.now) ty s) }
+        ensures none { IfNone result ((s : ℕ) → s < 4294967295 → IsTrue (is_absent (look_up self.now (ref ty s)).mode)) }
+    {
+        let mut end = self.place(Ref { ty, serial: 4294967295 });
+        while end > 0 {
+            end -= 1;
+            let stored = &self.records[end];
+            if stored.reference.ty != ty {
+                return None;
+            }
+            if !stored.mode.is_absent() {
+                return Some(stored.reference.serial);
+            }
+        }
+        None
+    }
+
+    /// A reference of the type that nothing has used; none where the greatest serial was used.
+    pub fn fresh(&self, ty: u32) -> Option<Ref>
+        ensures some { IfSome result (λ r. (r.ty ≡ ty) × IsFresh (look_up self.now) ty r.serial) }
+        ensures none { IsNone result ↔ IsFalse (is_absent (look_up self.now (ref ty 4294967295)).mode) }
+    {
+        let last = self.view(Ref { ty, serial: 4294967295 });
+        if !last.mode.is_absent() {
+            return None;
+        }
+        match self.newest(ty) {
+            Some(serial) => Some(Ref {
+                ty,
+                serial: serial + 1,
+            }),
+            None => Some(Ref { ty, serial: 1 }),
+        }
+    }
+
+    /// The fields that are kept of the object, in the order of their numbers.
+    fn kept(&self, o: Ref) -> &[Kept]
+        ensures fields { (f : ℕ) → (look_up self.now o).fields f ≡ field_in result.now f }
+        ensures ordered { IsTrue (is_ordered kept_lt result.now) }
+    {
+        match self.get(o) {
+            Some(stored) => stored.fields.as_slice(),
+            None => &[],
+        }
+    }
+
+    /// Whether the object has one content in both heaps: all but its status.
+    pub fn same_content(&self, other: &Heap, o: Ref) -> bool
+        ensures { IsTrue result ↔ SameContent (look_up self.now o) (look_up other.now o) }
+    {
+        if self.view(o).count != other.view(o).count {
+            return false;
+        }
+        if !same_members(self.owned(o), other.owned(o)) {
+            return false;
+        }
+        if !same_fields(self.kept(o), other.kept(o)) {
+            return false;
+        }
+        if !same_members(self.listed(o), other.listed(o)) {
+            return false;
+        }
+        same_conjuncts(self.shapes(o), other.shapes(o))
     }
 }

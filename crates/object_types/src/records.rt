@@ -2,7 +2,7 @@
 
 ghost use Rattle.std.specs.Prelude.{◌≡◌, ℕ, ◌^◌, ◌<◌, ◌↔◌, List, [], OnOk, OnErr, IfOk, IsTrue};
 ghost use Rattle.object_types.specs.Heap.{nothing, is_absent};
-ghost use Rattle.object_types.specs.Lookups.{record_of, changed, is_tidy};
+ghost use Rattle.object_types.specs.Lookups.{record_of, changed, is_tidy, is_blank};
 
 use crate::fields::Fields;
 use crate::references::{NULL, Ref};
@@ -112,5 +112,38 @@ impl Stored {
             Change::Listed(object, holds) => self.listed.set(object, holds),
             Change::Shape(entry, holds) => self.shapes.set(entry, holds),
         }
+    }
+
+    /// Whether the record says nothing: as if nothing stood at the reference.
+    pub fn is_blank(&self) -> bool
+        ensures { result ≡ is_blank self.now }
+    {
+        self.mode.is_absent()
+            && self.owner.is_same(NULL)
+            && self.count == 0
+            && self.owned.as_slice().is_empty()
+            && self.fields.as_slice().is_empty()
+            && self.listed.as_slice().is_empty()
+            && self.shapes.as_slice().is_empty()
+    }
+
+    /// The same record once more.
+    pub fn copy(&self) -> Result<Stored, AllocError>
+        ensures { IfOk result (λ s. s ≡ self.now) }
+    {
+        let owned = self.owned.copy()?;
+        let fields = self.fields.copy()?;
+        let listed = self.listed.copy()?;
+        let shapes = self.shapes.copy()?;
+        Ok(Stored {
+            reference: self.reference,
+            mode: self.mode,
+            owner: self.owner,
+            count: self.count,
+            owned,
+            fields,
+            listed,
+            shapes,
+        })
     }
 }

@@ -1,6 +1,6 @@
 //! Finite sets of references.
 
-ghost use Rattle.std.specs.Prelude.{◌≡◌, ◌≤◌, List, [], OnOk, OnErr, IfOk, IfErr, IsTrue, length};
+ghost use Rattle.std.specs.Prelude.{◌≡◌, ◌≤◌, ◌↔◌, List, [], OnOk, OnErr, IfOk, IfErr, IsTrue, length};
 ghost use Rattle.object_types.specs.References.{ref_lt, same_ref};
 ghost use Rattle.object_types.specs.Places.{is_ordered, place, IsAt, GoesAt};
 ghost use Rattle.object_types.specs.Sets.{set_member};
@@ -105,4 +105,11 @@ impl RefSet {
             members: Vec::from_slice(*self.members.allocator(), &self.members)?,
         })
     }
+}
+
+/// Whether the two sets are one.
+pub fn same_members(left: &[Ref], right: &[Ref]) -> bool
+    ensures { IsTrue result ↔ (left.now ≡ right.now) }
+{
+    left == right
 }

@@ -1,6 +1,6 @@
 //! What a claim was made with.
 
-ghost use Rattle.std.specs.Prelude.{◌≡◌, ◌≤◌, List, [], OnOk, OnErr, IfOk, IfErr, IsTrue, length};
+ghost use Rattle.std.specs.Prelude.{◌≡◌, ◌≤◌, ◌↔◌, List, [], OnOk, OnErr, IfOk, IfErr, IsTrue, length};
 ghost use Rattle.object_types.specs.Places.{is_ordered, place, IsAt, GoesAt};
 ghost use Rattle.object_types.specs.Shapes.{entry_lt, same_entry, set_entry};
 
@@ -141,4 +141,19 @@ impl Shapes {
         }
         Ok(Shapes { entries })
     }
+}
+
+/// Whether the two lists have the same conjuncts.
+pub fn same_conjuncts(left: &[Entry], right: &[Entry]) -> bool
+    ensures { IsTrue result ↔ (left.now ≡ right.now) }
+{
+    if left.len() != right.len() {
+        return false;
+    }
+    for i in 0..left.len() {
+        if !left[i].is_same(&right[i]) {
+            return false;
+        }
+    }
+    true
 }
