@@ -15,7 +15,7 @@ use Rattle.object_types.specs.Fields.{field_in}
 use Rattle.object_types.specs.Lookups.{reference_of, stored_lt, record_of, record_or_nothing, look_up, is_tidy, is_blank, IsKept}
 use Rattle.object_types.specs.Content.{IsFirst, IsFresh, IsNewest}
 use Rattle.object_types.proofs.Orders.{ref_order, int_order, not_before_itself}
-use Rattle.object_types.proofs.Placed.{earlier_below, below_place, above_place, own_at}
+use Rattle.object_types.proofs.Placed.{place-le-length, earlier_below, below_place, above_place, own_at}
 use Rattle.object_types.proofs.FieldChanges.{none_kept}
 use Rattle.object_types.proofs.HeapChanges.{every_at}
 use Rattle.object_types.proofs.Equal.{any_default}
@@ -103,7 +103,7 @@ nothing_below ss from i k h q at_or_above none_later =
             | inl early ↦
                 let under = below_place reference_of ref_lt same_ref ref_order from ss j d early in
                 absurd (both_ways _ at_or_above (subst (λ r. ref_lt r from ≡ true) (sym (ref_order.equal _ _ same)) under))
-            | inr late ↦ blank_is _ (h.blank j d late less)
+            | inr late ↦ blank_is (get_or ss j d) (h.blank j d late less)
           ]
         | inr more ↦ absurd (none_later j d more l same)
       ])
@@ -123,7 +123,7 @@ first_is ss from i s k h l e b = record {
         | inl less ↦
             let up : ref_lt (get_or ss i d).reference (get_or ss j d).reference ≡ true = earlier_below reference_of ref_lt same_ref ref_order ss i j d k.ordered less m in
             let up_s : ref_lt s.reference (get_or ss j d).reference ≡ true = subst (λ (t : Stored). ref_lt t.reference (get_or ss j d).reference ≡ true) (any_default ss i d s l ∙ sym e) up in
-            both_ways _ (ref_order.one_way _ _ up_s) before_j
+            both_ways _ (ref_order.one_way s.reference (get_or ss j d).reference up_s) before_j
         | inr more ↦
             let at_i : j ≡ i = omega arith in
             let s_is : get_or ss j d ≡ s = ap (λ n. get_or ss n d) at_i ∙ any_default ss i d s l ∙ sym e in
@@ -196,6 +196,9 @@ absent_above ss ty end t k h below none_earlier =
           ]
       ])
 
+pub within_length : (ss : List Stored) (ty i : ℕ) → AbsentFrom ss ty (i + 1) → i < length ss
+within_length ss ty i h = let w = h.within in omega (arith, place-le-length (λ y. ref_lt (reference_of y) (last ty)) ss)
+
 pub newest_none : (ss : List Stored) (ty : ℕ) → IsKept ss → AbsentFrom ss ty 0 → (t : ℕ) → t < 4294967295 → is_absent (look_up ss (ref ty t)).mode ≡ true
 newest_none ss ty k h t below = absent_above ss ty 0 t k h below (λ j d early l e. omega arith)
 
@@ -216,7 +219,7 @@ newest_found ss ty i s k h l e ty_is there =
     let w = h.within in
     let r_is : s.reference ≡ ref ty s.reference.serial = λ n. record { ty = ty_is n; serial = s.reference.serial } in
     record {
-      below_last = elim (ref_lt_cases _ _ (under_last ss ty i s l (omega arith) e)) [ inl less ↦ absurd (omega arith) | inr (same, less) ↦ less ];
+      below_last = elim (ref_lt_cases _ _ (under_last ss ty i s l (omega arith) e)) [ inl less ↦ (let lower : s.reference.ty < ty = less in absurd (omega arith)) | inr (same, less) ↦ less ];
       present = subst (λ r. is_absent (look_up ss r).mode ≡ false) r_is (subst (λ (r : Record). is_absent r.mode ≡ false) (sym (look_up_own ss i s k l e)) there);
       above = λ t up below. absent_above ss ty (i + 1) t k h below (λ j d early m r.
         let its_type : (get_or ss j d).reference.ty ≡ ty = ap (λ (q : Ref). q.ty) r in

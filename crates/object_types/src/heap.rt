@@ -273,6 +273,7 @@ impl Heap {
         ensures some { IfSome result (λ r. (r.ty ≡ ty) × IsFresh (look_up self.now) ty r.serial) }
         ensures none { IsNone result ↔ IsFalse (is_absent (look_up self.now (ref ty 4294967295)).mode) }
     {
+        let _ = &self.records;
         let last = self.view(Ref { ty, serial: 4294967295 });
         if !last.mode.is_absent() {
             return None;
