@@ -8,3 +8,4 @@ pub mod RecordChanges
 pub mod HeapChanges
 pub mod Equal
 pub mod Present
+pub mod Fresh

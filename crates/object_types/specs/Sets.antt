@@ -2,6 +2,7 @@
 use Rattle.std.specs.Prelude.{Bool, true, false, not, ◌&&◌, ◌||◌, if◌then◌else◌, List, [], ◌∷◌, filter}
 use Rattle.object_types.specs.declared.references.Ref.{Ref}
 use Rattle.object_types.specs.References.{same_ref, ref_lt}
+pub use Rattle.object_types.specs.Places.{ordered_from, is_ordered}
 use Rattle.object_types.specs.Places.{placed}
 
 abbrev pub every : {X : Type 0} → (X → Bool) → List X → Bool

@@ -8,3 +8,6 @@ pub mod fields;
 pub mod shapes;
 pub mod records;
 pub mod heap;
+
+#[cfg(test)]
+mod tests;
