@@ -16,8 +16,8 @@ agree_next xs ys i d e a l same =
     record {
       lengths = a.lengths;
       before = λ h.
-        let rest : drop (suc i) xs ≡ drop (suc i) ys = rw add-one at h in
-        a.before (rw (drop-cons xs i d, drop-cons ys i e) (λ j. same j ∷ rest j))
+          let rest : drop (suc i) xs ≡ drop (suc i) ys = rw add-one at h in
+          a.before (rw (drop-cons xs i d, drop-cons ys i e) (λ j. same j ∷ rest j));
     }
 
 drop_all : {X : Type 0} (xs : List X) (i : ℕ) → length xs ≤ i → drop i xs ≡ []

@@ -107,7 +107,7 @@ look_ups_determine (k ∷ ks) (l ∷ ls) o p h =
           ] refl) in
           λ i. head i ∷ rest i
       | false ↦ λ e. elim (nat_lt k.field l.field) as (λ b. nat_lt k.field l.field ≡ b → k ∷ ks ≡ l ∷ ls) [
-          | true ↦ λ less. let none = sym (head_field k ks) ∙ h k.field ∙ field_below l ls k.field p less in cc
-          | false ↦ λ more. let none = sym (head_field l ls) ∙ sym (h l.field) ∙ field_below k ks l.field o (nat_order.total _ _ e more) in cc
-        ] refl
+        | true ↦ λ less. let none = sym (head_field k ks) ∙ h k.field ∙ field_below l ls k.field p less in cc
+        | false ↦ λ more. let none = sym (head_field l ls) ∙ sym (h l.field) ∙ field_below k ks l.field o (nat_order.total _ _ e more) in cc
+      ] refl
     ] refl

@@ -1,12 +1,11 @@
 -- The fresh serial of a heap is the one that its records determine; the list that is a heap names all that stands in it.
 use Rattle.std.proofs.Common.{◌≡◌, ◌≢◌, ℕ, suc, zero, ◌+◌, ◌-◌, ◌<◌, ◌≤◌, ◌⊎◌, inl, inr, max, Bool, true, false, not, cond, ◌&&◌, ◌||◌, ◌==◌, List, [], ◌∷◌, map, refl, sym, ap, subst, ◌∙◌, arith}
-use Rattle.std.specs.Prelude.{IsTrue, IsFalse}
 use Rattle.std.proofs.lemmas.Bool.{both_ways, cases_lt, and_parts, and_from, or_cases, or_parts, eqb-true, eq-eqb, not-true}
 use Rattle.object_types.specs.declared.references.Ref.{Ref}
 use Rattle.object_types.specs.declared.records.Stored.{Stored}
 use Rattle.object_types.specs.References.{ref, same_ref}
 use Rattle.object_types.specs.Sets.{is_in}
-use Rattle.object_types.specs.Heap.{Heap, Record, nothing, is_absent, above, fresh}
+use Rattle.object_types.specs.Heap.{Heap, Record, IsFinite, nothing, is_absent, above, fresh}
 use Rattle.object_types.specs.Content.{IsFresh}
 use Rattle.object_types.specs.Lookups.{reference_of, look_up, heap_of}
 use Rattle.object_types.proofs.Orders.{ref_order}
@@ -60,18 +59,18 @@ above_reached h ty (r ∷ rs) other =
     ] refl other
 
 -- where nothing stands outside the support, the fresh reference has the fresh serial
-pub fresh_is : (h : Heap) (ty : ℕ) → ((o : Ref) → IsFalse (is_in o h.support) → h.get o ≡ nothing) → IsFresh h.get ty (fresh h ty).serial
+pub fresh_is : (h : Heap) (ty : ℕ) → IsFinite h → IsFresh h.get ty (fresh h ty).serial
 fresh_is h ty finite = record {
   from_one = above_one h ty h.support;
   above = λ s up.
-    elim (is_absent (h.get (ref ty s)).mode) as (λ b. is_absent (h.get (ref ty s)).mode ≡ b → b ≡ true) [
-      | true ↦ λ e. refl
-      | false ↦ λ e. elim (is_in (ref ty s) h.support) as (λ b. is_in (ref ty s) h.support ≡ b → false ≡ true) [
+      elim (is_absent (h.get (ref ty s)).mode) as (λ b. is_absent (h.get (ref ty s)).mode ≡ b → b ≡ true) [
+        | true ↦ λ e. refl
+        | false ↦ λ e. elim (is_in (ref ty s) h.support) as (λ b. is_in (ref ty s) h.support ≡ b → false ≡ true) [
           | true ↦ λ among. absurd (let below = above_covers h ty h.support s among e in let top : above h ty h.support ≤ s = up in omega arith)
           | false ↦ λ out. absurd (both_ways _ e (ap (λ (r : Record). is_absent r.mode) (finite (ref ty s) out)))
         ] refl
-    ] refl;
-  below = above_reached h ty h.support
+      ] refl;
+  below = above_reached h ty h.support;
 }
 
 -- the fresh serial is one
@@ -82,17 +81,17 @@ fresh_unique get ty a b f g =
     elim (cases_lt a b) [
       | inl less ↦ absurd (both_ways _ (g.below (λ e. absurd (let h : b ≡ 1 = e in omega arith))) (f.above (b - 1) (omega arith)))
       | inr more ↦ elim (cases_lt b a) [
-          | inl less ↦ absurd (both_ways _ (f.below (λ e. absurd (let h : a ≡ 1 = e in omega arith))) (g.above (a - 1) (omega arith)))
-          | inr other ↦ omega arith
-        ]
+        | inl less ↦ absurd (both_ways _ (f.below (λ e. absurd (let h : a ≡ 1 = e in omega arith))) (g.above (a - 1) (omega arith)))
+        | inr other ↦ omega arith
+      ]
     ]
 
 -- so whatever the code's `fresh` gives is the heap's fresh reference
-pub fresh_determined : (h : Heap) (ty serial : ℕ) → ((o : Ref) → IsFalse (is_in o h.support) → h.get o ≡ nothing) → IsFresh h.get ty serial → ref ty serial ≡ fresh h ty
+pub fresh_determined : (h : Heap) (ty serial : ℕ) → IsFinite h → IsFresh h.get ty serial → ref ty serial ≡ fresh h ty
 fresh_determined h ty serial finite f = ap (ref ty) (fresh_unique h.get ty _ _ f (fresh_is h ty finite))
 
 -- outside the references that the list names nothing stands
-pub support_covers : (ss : List Stored) (o : Ref) → IsFalse (is_in o (heap_of ss).support) → look_up ss o ≡ nothing
+pub support_covers : (ss : List Stored) → IsFinite (heap_of ss)
 unfolding is_in
 support_covers [] o out = refl
 support_covers (s ∷ ss) o out =

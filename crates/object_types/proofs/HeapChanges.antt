@@ -30,7 +30,7 @@ chosen false x o = refl
 look_up_replaced : (x : Stored) (ss : List Stored) → look_up (replaced reference_of ref_lt same_ref x ss) ≡ put_at (look_up ss) x.reference (record_of x)
 look_up_replaced x ss =
     let at_each : (q : Ref) → look_up (replaced reference_of ref_lt same_ref x ss) q ≡ put_at (look_up ss) x.reference (record_of x) q =
-        λ q. ap record_or_nothing (at_key_replaced reference_of ref_lt same_ref ref_order q x ss) ∙ chosen (same_ref q x.reference) x _ in
+    λ q. ap record_or_nothing (at_key_replaced reference_of ref_lt same_ref ref_order q x ss) ∙ chosen (same_ref q x.reference) x _ in
     λ i q. at_each q i
 
 -- x stands at o in the new list, and all else is as before
@@ -44,19 +44,19 @@ look_up_new o old new x r e f = ap look_up e.list ∙ look_up_replaced x old ∙
 pub kept_new : (o : Ref) (old new : List Stored) (x : Stored) → IsKept old → Replaces o old new x → is_tidy x ≡ true → IsKept new
 kept_new o old new x k e t = subst IsKept (sym e.list) (record {
   ordered = ordered_replaced reference_of ref_lt same_ref ref_order x old k.ordered;
-  tidy = every_replaced reference_of ref_lt same_ref ref_order is_tidy x old t k.tidy
+  tidy = every_replaced reference_of ref_lt same_ref ref_order is_tidy x old t k.tidy;
 })
 
 pub set_replaces : (o : Ref) (old new : List Stored) (i : ℕ) (x : Stored) → IsAt reference_of ref_lt same_ref o old i → x.reference ≡ o → new ≡ set old i x → Replaces o old new x
 set_replaces o old new i x a e f = record {
   at = e;
-  list = f ∙ set_at reference_of ref_lt same_ref ref_order x old i (subst (λ r. IsAt reference_of ref_lt same_ref r old i) (sym e) a)
+  list = f ∙ set_at reference_of ref_lt same_ref ref_order x old i (subst (λ r. IsAt reference_of ref_lt same_ref r old i) (sym e) a);
 }
 
 pub insert_replaces : (o : Ref) (old new : List Stored) (i : ℕ) (x : Stored) → GoesAt reference_of ref_lt same_ref o old i → x.reference ≡ o → new ≡ insert old i x → Replaces o old new x
 insert_replaces o old new i x a e f = record {
   at = e;
-  list = f ∙ insert_at reference_of ref_lt same_ref ref_order x old i (subst (λ r. GoesAt reference_of ref_lt same_ref r old i) (sym e) a)
+  list = f ∙ insert_at reference_of ref_lt same_ref ref_order x old i (subst (λ r. GoesAt reference_of ref_lt same_ref r old i) (sym e) a);
 }
 
 -- what stands at the place of o has the reference o, and is o's record

@@ -46,36 +46,36 @@ lexicographic_order {K} f g before1 same1 before2 same2 o p join = record {
   itself = λ x. and_from _ _ (o.itself (f x)) (p.itself (g x));
   equal = λ x y h. let parts = and_parts _ _ h in join x y (o.equal _ _ parts.0) (p.equal _ _ parts.1);
   one_way = λ x y h.
-    elim (or_cases (before1 (f x) (f y)) (same1 (f x) (f y) && before2 (g x) (g y)) h) [
-      | inl first ↦ or_from _ _ (o.one_way _ _ first) (and_left _ _ (apart_turned before1 same1 o _ _ first))
-      | inr second ↦
-          let parts = and_parts (same1 (f x) (f y)) (before2 (g x) (g y)) second in
-          or_from _ _ (same_not_before before1 same1 o _ _ (same_turned before1 same1 o _ _ parts.0)) (and_right _ _ (p.one_way _ _ parts.1))
-    ];
+      elim (or_cases (before1 (f x) (f y)) (same1 (f x) (f y) && before2 (g x) (g y)) h) [
+        | inl first ↦ or_from _ _ (o.one_way _ _ first) (and_left _ _ (apart_turned before1 same1 o _ _ first))
+        | inr second ↦
+            let parts = and_parts (same1 (f x) (f y)) (before2 (g x) (g y)) second in
+            or_from _ _ (same_not_before before1 same1 o _ _ (same_turned before1 same1 o _ _ parts.0)) (and_right _ _ (p.one_way _ _ parts.1))
+      ];
   total = λ x y s h.
-    let parts = or_parts (before1 (f x) (f y)) (same1 (f x) (f y) && before2 (g x) (g y)) h in
-    elim (same1 (f x) (f y)) as (λ b. same1 (f x) (f y) ≡ b → (b && same2 (g x) (g y)) ≡ false → (b && before2 (g x) (g y)) ≡ false → (before1 (f y) (f x) || (same1 (f y) (f x) && before2 (g y) (g x))) ≡ true) [
-      | true ↦ λ e s2 h2. or_right _ _ (and_from _ _ (same_turned before1 same1 o _ _ e) (p.total _ _ s2 h2))
-      | false ↦ λ e s2 h2. or_left _ _ (o.total _ _ e parts.0)
-    ] refl s parts.1;
+      let parts = or_parts (before1 (f x) (f y)) (same1 (f x) (f y) && before2 (g x) (g y)) h in
+      elim (same1 (f x) (f y)) as (λ b. same1 (f x) (f y) ≡ b → (b && same2 (g x) (g y)) ≡ false → (b && before2 (g x) (g y)) ≡ false → (before1 (f y) (f x) || (same1 (f y) (f x) && before2 (g y) (g x))) ≡ true) [
+        | true ↦ λ e s2 h2. or_right _ _ (and_from _ _ (same_turned before1 same1 o _ _ e) (p.total _ _ s2 h2))
+        | false ↦ λ e s2 h2. or_left _ _ (o.total _ _ e parts.0)
+      ] refl s parts.1;
   chain = λ x y z h k.
-    elim (or_cases (before1 (f x) (f y)) (same1 (f x) (f y) && before2 (g x) (g y)) h) [
-      | inl first ↦
-          elim (or_cases (before1 (f y) (f z)) (same1 (f y) (f z) && before2 (g y) (g z)) k) [
-            | inl next ↦ or_left _ _ (o.chain _ _ _ first next)
-            | inr next ↦
-                let parts = and_parts (same1 (f y) (f z)) (before2 (g y) (g z)) next in
-                or_left _ _ (subst (λ a. before1 (f x) a ≡ true) (o.equal _ _ parts.0) first)
-          ]
-      | inr first ↦
-          let parts = and_parts (same1 (f x) (f y)) (before2 (g x) (g y)) first in
-          elim (or_cases (before1 (f y) (f z)) (same1 (f y) (f z) && before2 (g y) (g z)) k) [
-            | inl next ↦ or_left _ _ (subst (λ a. before1 a (f z) ≡ true) (sym (o.equal _ _ parts.0)) next)
-            | inr next ↦
-                let others = and_parts (same1 (f y) (f z)) (before2 (g y) (g z)) next in
-                or_right _ _ (and_from _ _ (subst (λ a. same1 (f x) a ≡ true) (o.equal _ _ others.0) parts.0) (p.chain _ _ _ parts.1 others.1))
-          ]
-    ]
+      elim (or_cases (before1 (f x) (f y)) (same1 (f x) (f y) && before2 (g x) (g y)) h) [
+        | inl first ↦
+            elim (or_cases (before1 (f y) (f z)) (same1 (f y) (f z) && before2 (g y) (g z)) k) [
+              | inl next ↦ or_left _ _ (o.chain _ _ _ first next)
+              | inr next ↦
+                  let parts = and_parts (same1 (f y) (f z)) (before2 (g y) (g z)) next in
+                  or_left _ _ (subst (λ a. before1 (f x) a ≡ true) (o.equal _ _ parts.0) first)
+            ]
+        | inr first ↦
+            let parts = and_parts (same1 (f x) (f y)) (before2 (g x) (g y)) first in
+            elim (or_cases (before1 (f y) (f z)) (same1 (f y) (f z) && before2 (g y) (g z)) k) [
+              | inl next ↦ or_left _ _ (subst (λ a. before1 a (f z) ≡ true) (sym (o.equal _ _ parts.0)) next)
+              | inr next ↦
+                  let others = and_parts (same1 (f y) (f z)) (before2 (g y) (g z)) next in
+                  or_right _ _ (and_from _ _ (subst (λ a. same1 (f x) a ≡ true) (o.equal _ _ others.0) parts.0) (p.chain _ _ _ parts.1 others.1))
+            ]
+      ];
 }
 
 pub nat_order : IsOrder nat_lt (λ a b. a == b)
@@ -84,7 +84,7 @@ nat_order = record {
   equal = λ a b h. eqb-true a b h;
   one_way = λ a b h. let below = ltb-true a b h in le-ltb b a (omega arith);
   total = λ a b s h. let up = ltb-false a b h in let other = eqb-false a b s in lt-ltb b a (omega arith);
-  chain = λ a b c h k. let low = ltb-true a b h in let high = ltb-true b c k in lt-ltb a c (omega arith)
+  chain = λ a b c h k. let low = ltb-true a b h in let high = ltb-true b c k in lt-ltb a c (omega arith);
 }
 
 pub ref_order : IsOrder ref_lt same_ref

@@ -129,17 +129,17 @@ module _ {X K : Type 0} (key : X → K) (before same : K → K → Bool) (o : Is
       let rest : at_key q (replaced key before same x ys) ≡ cond (same q (key x)) (Some x) (at_key q ys) = at_key_replaced q x ys in
       elim (same (key x) (key y)) as (λ b. same (key x) (key y) ≡ b → at_key q (cond b (x ∷ ys) (cond (before (key x) (key y)) (x ∷ y ∷ ys) (y ∷ replaced key before same x ys))) ≡ cond (same q (key x)) (Some x) (cond (same q (key y)) (Some y) (at_key q ys))) [
         | true ↦ λ e. elim (same q (key x)) as (λ b. same q (key x) ≡ b → cond b (Some x) (at_key q ys) ≡ cond b (Some x) (cond (same q (key y)) (Some y) (at_key q ys))) [
-            | true ↦ λ s. refl
-            | false ↦ λ s. rw (subst (λ a. same q a ≡ false) (o.equal _ _ e) s) refl
-          ] refl
+          | true ↦ λ s. refl
+          | false ↦ λ s. rw (subst (λ a. same q a ≡ false) (o.equal _ _ e) s) refl
+        ] refl
         | false ↦ λ e. elim (before (key x) (key y)) as (λ b. at_key q (cond b (x ∷ y ∷ ys) (y ∷ replaced key before same x ys)) ≡ cond (same q (key x)) (Some x) (cond (same q (key y)) (Some y) (at_key q ys))) [
-            | true ↦ refl
-            | false ↦
-                elim (same q (key y)) as (λ b. same q (key y) ≡ b → cond b (Some y) (at_key q (replaced key before same x ys)) ≡ cond (same q (key x)) (Some x) (cond b (Some y) (at_key q ys))) [
-                  | true ↦ λ s. rw (subst (λ a. same a (key x) ≡ false) (sym (o.equal _ _ s)) (lacks_turned _ _ e)) refl
-                  | false ↦ λ s. rest
-                ] refl
-          ]
+          | true ↦ refl
+          | false ↦
+              elim (same q (key y)) as (λ b. same q (key y) ≡ b → cond b (Some y) (at_key q (replaced key before same x ys)) ≡ cond (same q (key x)) (Some x) (cond b (Some y) (at_key q ys))) [
+                | true ↦ λ s. rw (subst (λ a. same a (key x) ≡ false) (sym (o.equal _ _ s)) (lacks_turned _ _ e)) refl
+                | false ↦ λ s. rest
+              ] refl
+        ]
       ] refl
 
   pub at_key_taken_out : (q k : K) (xs : List X) → at_key q (taken_out key same k xs) ≡ cond (same q k) None (at_key q xs)
@@ -197,9 +197,9 @@ module _ {X K : Type 0} (key : X → K) (before same : K → K → Bool) (o : Is
       elim (same (key x) (key y)) as (λ b. same (key x) (key y) ≡ b → ordered_from key_lt w (cond b (x ∷ ys) (cond (before (key x) (key y)) (x ∷ y ∷ ys) (y ∷ replaced key before same x ys))) ≡ true) [
         | true ↦ λ e. and_from _ _ up (same_key_first x y ys (o.equal _ _ e) parts.1)
         | false ↦ λ e. elim (before (key x) (key y)) as (λ b. before (key x) (key y) ≡ b → ordered_from key_lt w (cond b (x ∷ y ∷ ys) (y ∷ replaced key before same x ys)) ≡ true) [
-            | true ↦ λ less. and_from _ _ up (and_from _ _ less parts.1)
-            | false ↦ λ more. and_from _ _ parts.0 (next (o.total _ _ e more))
-          ] refl
+          | true ↦ λ less. and_from _ _ up (and_from _ _ less parts.1)
+          | false ↦ λ more. and_from _ _ parts.0 (next (o.total _ _ e more))
+        ] refl
       ] refl
 
   pub ordered_replaced : (x : X) (xs : List X) → is_ordered key_lt xs ≡ true → is_ordered key_lt (replaced key before same x xs) ≡ true
@@ -208,9 +208,9 @@ module _ {X K : Type 0} (key : X → K) (before same : K → K → Bool) (o : Is
       elim (same (key x) (key y)) as (λ b. same (key x) (key y) ≡ b → is_ordered key_lt (cond b (x ∷ ys) (cond (before (key x) (key y)) (x ∷ y ∷ ys) (y ∷ replaced key before same x ys))) ≡ true) [
         | true ↦ λ e. same_key_first x y ys (o.equal _ _ e) h
         | false ↦ λ e. elim (before (key x) (key y)) as (λ b. before (key x) (key y) ≡ b → is_ordered key_lt (cond b (x ∷ y ∷ ys) (y ∷ replaced key before same x ys)) ≡ true) [
-            | true ↦ λ less. and_from _ _ less h
-            | false ↦ λ more. replaced_from y x ys (o.total _ _ e more) h
-          ] refl
+          | true ↦ λ less. and_from _ _ less h
+          | false ↦ λ more. replaced_from y x ys (o.total _ _ e more) h
+        ] refl
       ] refl
 
   filtered_from : (keep : X → Bool) (w : X) (ys : List X) → ordered_from key_lt w ys ≡ true → ordered_from key_lt w (filter keep ys) ≡ true
@@ -239,9 +239,9 @@ module _ {X K : Type 0} (key : X → K) (before same : K → K → Bool) (o : Is
       elim (same (key x) (key y)) as (λ b. every test (cond b (x ∷ ys) (cond (before (key x) (key y)) (x ∷ y ∷ ys) (y ∷ replaced key before same x ys))) ≡ true) [
         | true ↦ and_from _ _ t parts.1
         | false ↦ elim (before (key x) (key y)) as (λ b. every test (cond b (x ∷ y ∷ ys) (y ∷ replaced key before same x ys)) ≡ true) [
-            | true ↦ and_from _ _ t h
-            | false ↦ and_from _ _ parts.0 rest
-          ]
+          | true ↦ and_from _ _ t h
+          | false ↦ and_from _ _ parts.0 rest
+        ]
       ]
 
   has_at : (k : K) (xs : List X) (i : ℕ) (d : X) → IsAt key before same k xs i → Has k xs d

@@ -91,22 +91,22 @@ searched_next ss from i s h l e b = record {
     | inr more ↦
         let at_i : i ≡ k = omega arith in
         subst (λ n. is_blank (get_or ss n d) ≡ true) at_i (subst (λ t. is_blank t ≡ true) (e ∙ any_default ss i s d l) b)
-  ]
+  ];
 }
 
 -- before i, in reference order, nothing stands from `from` on
 nothing_below : (ss : List Stored) (from : Ref) (i : ℕ) → IsKept ss → Searched ss from i → (q : Ref) → ref_lt q from ≡ false → ((j : ℕ) (d : Stored) → i ≤ j → j < length ss → same_ref q (get_or ss j d).reference ≡ true → ⊥) → look_up ss q ≡ nothing
 nothing_below ss from i k h q at_or_above none_later =
     look_up_by (λ r. r ≡ nothing) q ss refl (λ j d l same.
-      elim (cases_lt j i) [
-        | inl less ↦ elim (cases_lt j (place_of ss from)) [
-            | inl early ↦
-                let under = below_place reference_of ref_lt same_ref ref_order from ss j d early in
-                absurd (both_ways _ at_or_above (subst (λ r. ref_lt r from ≡ true) (sym (ref_order.equal _ _ same)) under))
-            | inr late ↦ blank_is (get_or ss j d) (h.blank j d late less)
-          ]
-        | inr more ↦ absurd (none_later j d more l same)
-      ])
+    elim (cases_lt j i) [
+      | inl less ↦ elim (cases_lt j (place_of ss from)) [
+        | inl early ↦
+            let under = below_place reference_of ref_lt same_ref ref_order from ss j d early in
+            absurd (both_ways _ at_or_above (subst (λ r. ref_lt r from ≡ true) (sym (ref_order.equal _ _ same)) under))
+        | inr late ↦ blank_is (get_or ss j d) (h.blank j d late less)
+      ]
+      | inr more ↦ absurd (none_later j d more l same)
+    ])
 
 pub first_none : (ss : List Stored) (from : Ref) (i : ℕ) → IsKept ss → Searched ss from i → length ss ≤ i → (q : Ref) → ref_lt q from ≡ false → look_up ss q ≡ nothing
 first_none ss from i k h over q at_or_above = nothing_below ss from i k h q at_or_above (λ j d l m same. omega arith)
@@ -116,7 +116,7 @@ first_is ss from i s k h l e b = record {
   at_or_above = subst (λ (t : Stored). ref_lt t.reference from ≡ false) (sym e) (above_place reference_of ref_lt same_ref ref_order from ss i s k.ordered h.start l);
   something = λ none. both_ways _ b (nothing_is_blank s (sym (look_up_own ss i s k l e) ∙ none));
   nothing_before = λ q above before.
-    nothing_below ss from i k h q above (λ j d low m same.
+      nothing_below ss from i k h q above (λ j d low m same.
       let q_is = ref_order.equal _ _ same in
       let before_j : ref_lt (get_or ss j d).reference s.reference ≡ true = subst (λ r. ref_lt r s.reference ≡ true) q_is before in
       elim (cases_lt i j) [
@@ -128,7 +128,7 @@ first_is ss from i s k h l e b = record {
             let at_i : j ≡ i = omega arith in
             let s_is : get_or ss j d ≡ s = ap (λ n. get_or ss n d) at_i ∙ any_default ss i d s l ∙ sym e in
             both_ways _ (not_before_itself ref_lt same_ref ref_order s.reference) (subst (λ (t : Stored). ref_lt t.reference s.reference ≡ true) s_is before_j)
-      ])
+      ]);
 }
 
 -- reference order by numbers
@@ -178,23 +178,23 @@ absent_next ss ty i s h l e b = record {
     | inr more ↦
         let at_i : i ≡ k = omega arith in
         subst (λ n. is_absent (get_or ss n d).mode ≡ true) at_i (subst (λ (t : Stored). is_absent t.mode ≡ true) (e ∙ any_default ss i s d l) b)
-  ]
+  ];
 }
 
 -- a serial below the last is absent, if no record before `end` has it
 absent_above : (ss : List Stored) (ty end t : ℕ) → IsKept ss → AbsentFrom ss ty end → t < 4294967295 → ((j : ℕ) (d : Stored) → j < end → j < length ss → (get_or ss j d).reference ≡ ref ty t → ⊥) → is_absent (look_up ss (ref ty t)).mode ≡ true
 absent_above ss ty end t k h below none_earlier =
     look_up_by (λ r. is_absent r.mode ≡ true) (ref ty t) ss refl (λ j d l same.
-      let r_is : ref ty t ≡ (get_or ss j d).reference = ref_order.equal _ _ same in
-      elim (cases_lt j end) [
-        | inl early ↦ absurd (none_earlier j d early l (sym r_is))
-        | inr late ↦ elim (cases_lt j (place_of ss (last ty))) [
-            | inl under ↦ h.absent j d late under
-            | inr over ↦
-                let not_below = above_place reference_of ref_lt same_ref ref_order (last ty) ss j d k.ordered over l in
-                absurd (both_ways _ not_below (subst (λ r. ref_lt r (last ty) ≡ true) r_is (ref_lt_serials ty t 4294967295 below)))
-          ]
-      ])
+    let r_is : ref ty t ≡ (get_or ss j d).reference = ref_order.equal _ _ same in
+    elim (cases_lt j end) [
+      | inl early ↦ absurd (none_earlier j d early l (sym r_is))
+      | inr late ↦ elim (cases_lt j (place_of ss (last ty))) [
+        | inl under ↦ h.absent j d late under
+        | inr over ↦
+            let not_below = above_place reference_of ref_lt same_ref ref_order (last ty) ss j d k.ordered over l in
+            absurd (both_ways _ not_below (subst (λ r. ref_lt r (last ty) ≡ true) r_is (ref_lt_serials ty t 4294967295 below)))
+      ]
+    ])
 
 pub within_length : (ss : List Stored) (ty i : ℕ) → AbsentFrom ss ty (i + 1) → i < length ss
 within_length ss ty i h = let w = h.within in omega (arith, place-le-length (λ y. ref_lt (reference_of y) (last ty)) ss)
@@ -211,8 +211,8 @@ newest_lower ss ty i s k h l e other t below =
     let w = h.within in
     let lower : s.reference.ty < ty = elim (ref_lt_cases _ _ (under_last ss ty i s l (omega arith) e)) [ inl less ↦ less | inr (same, less) ↦ absurd (other same) ] in
     absent_above ss ty (i + 1) t k h below (λ j d early m r.
-      let its_type : (get_or ss j d).reference.ty ≡ ty = ap (λ (q : Ref). q.ty) r in
-      elim (at_most ss j i d s k (omega arith) l e) [ inl less ↦ omega arith | inr (same, less) ↦ omega arith ])
+    let its_type : (get_or ss j d).reference.ty ≡ ty = ap (λ (q : Ref). q.ty) r in
+    elim (at_most ss j i d s k (omega arith) l e) [ inl less ↦ omega arith | inr (same, less) ↦ omega arith ])
 
 pub newest_found : (ss : List Stored) (ty i : ℕ) (s : Stored) → IsKept ss → AbsentFrom ss ty (i + 1) → i < length ss → s ≡ get_or ss i s → s.reference.ty ≡ ty → is_absent s.mode ≡ false → IsNewest (look_up ss) ty s.reference.serial
 newest_found ss ty i s k h l e ty_is there =
@@ -222,19 +222,19 @@ newest_found ss ty i s k h l e ty_is there =
       below_last = elim (ref_lt_cases _ _ (under_last ss ty i s l (omega arith) e)) [ inl less ↦ (let lower : s.reference.ty < ty = less in absurd (omega arith)) | inr (same, less) ↦ less ];
       present = subst (λ r. is_absent (look_up ss r).mode ≡ false) r_is (subst (λ (r : Record). is_absent r.mode ≡ false) (sym (look_up_own ss i s k l e)) there);
       above = λ t up below. absent_above ss ty (i + 1) t k h below (λ j d early m r.
-        let its_type : (get_or ss j d).reference.ty ≡ ty = ap (λ (q : Ref). q.ty) r in
-        let its_serial : (get_or ss j d).reference.serial ≡ t = ap (λ (q : Ref). q.serial) r in
-        elim (at_most ss j i d s k (omega arith) l e) [ inl less ↦ omega arith | inr (same, less) ↦ omega arith ])
+          let its_type : (get_or ss j d).reference.ty ≡ ty = ap (λ (q : Ref). q.ty) r in
+          let its_serial : (get_or ss j d).reference.serial ≡ t = ap (λ (q : Ref). q.serial) r in
+          elim (at_most ss j i d s k (omega arith) l e) [ inl less ↦ omega arith | inr (same, less) ↦ omega arith ]);
     }
 
 -- no record has a serial past 32 bits
 absent_past : (ss : List Stored) (ty t : ℕ) → IsKept ss → 4294967296 ≤ t → is_absent (look_up ss (ref ty t)).mode ≡ true
 absent_past ss ty t k past =
     look_up_by (λ r. is_absent r.mode ≡ true) (ref ty t) ss refl (λ j d l same.
-      let its_serial : t ≡ (get_or ss j d).reference.serial = ap (λ (q : Ref). q.serial) (ref_order.equal _ _ same) in
-      let tidy = every_at is_tidy ss j d k.tidy l in
-      let fits : (get_or ss j d).reference.serial < 4294967296 = ltb-true _ _ (and_parts (nat_lt (get_or ss j d).reference.serial (2 ^ 32)) _ tidy).0 in
-      absurd (omega arith))
+    let its_serial : t ≡ (get_or ss j d).reference.serial = ap (λ (q : Ref). q.serial) (ref_order.equal _ _ same) in
+    let tidy = every_at is_tidy ss j d k.tidy l in
+    let fits : (get_or ss j d).reference.serial < 4294967296 = ltb-true _ _ (and_parts (nat_lt (get_or ss j d).reference.serial (2 ^ 32)) _ tidy).0 in
+    absurd (omega arith))
 
 absent_from_last : (ss : List Stored) (ty t : ℕ) → IsKept ss → is_absent (look_up ss (last ty)).mode ≡ true → 4294967295 ≤ t → is_absent (look_up ss (ref ty t)).mode ≡ true
 absent_from_last ss ty t k at_last h =
@@ -247,12 +247,12 @@ pub fresh_above : (ss : List Stored) (ty serial : ℕ) → IsKept ss → is_abse
 fresh_above ss ty serial k at_last n = record {
   from_one = omega arith;
   above = λ t h. elim (cases_lt t 4294967295) [ inl below ↦ n.above t (omega arith) below | inr past ↦ absent_from_last ss ty t k at_last past ];
-  below = λ other. let back : serial ≡ (serial + 1) - 1 = omega arith in subst (λ m. is_absent (look_up ss (ref ty m)).mode ≡ false) back n.present
+  below = λ other. let back : serial ≡ (serial + 1) - 1 = omega arith in subst (λ m. is_absent (look_up ss (ref ty m)).mode ≡ false) back n.present;
 }
 
 pub fresh_first : (ss : List Stored) (ty : ℕ) → IsKept ss → is_absent (look_up ss (last ty)).mode ≡ true → ((t : ℕ) → t < 4294967295 → is_absent (look_up ss (ref ty t)).mode ≡ true) → IsFresh (look_up ss) ty 1
 fresh_first ss ty k at_last none = record {
   from_one = omega arith;
   above = λ t h. elim (cases_lt t 4294967295) [ inl below ↦ none t below | inr past ↦ absent_from_last ss ty t k at_last past ];
-  below = λ other. absurd (other refl)
+  below = λ other. absurd (other refl);
 }

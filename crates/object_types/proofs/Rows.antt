@@ -25,7 +25,7 @@ from_next left right i d e f l r s = record {
   within_left = omega arith;
   within_right = omega arith;
   same = f.same ∙ rw (add-one, drop-cons left i d, drop-cons right i e, s) refl;
-  before = f.before ∙ rw (add-one, drop-cons left i d, drop-cons right i e, s, same_not_before value_lt same_value value_order _ _ s) refl
+  before = f.before ∙ rw (add-one, drop-cons left i d, drop-cons right i e, s, same_not_before value_lt same_value value_order _ _ s) refl;
 }
 
 pub differ_same : (left right : List Value) (i : ℕ) (d e : Value) → From left right i → i < length left → i < length right → same_value (get_or left i d) (get_or right i e) ≡ false → same_values left right ≡ false

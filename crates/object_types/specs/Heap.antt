@@ -1,5 +1,5 @@
 -- Heaps. From CAV 2010: a heap gives each object its status and its content. Own: the four modes, claim counts as content, records of claims.
-use Rattle.std.specs.Prelude.{◌≡◌, ℕ, zero, suc, ◌+◌, Bool, true, false, not, ◌&&◌, ◌||◌, ◌==◌, if◌then◌else◌, max, ℤ, pos, ◌+ℤ◌, List, [], ◌∷◌, ◌++◌, Option, None, IsTrue}
+use Rattle.std.specs.Prelude.{◌≡◌, ℕ, zero, suc, ◌+◌, Bool, true, false, not, ◌&&◌, ◌||◌, ◌==◌, if◌then◌else◌, max, ℤ, pos, ◌+ℤ◌, List, [], ◌∷◌, ◌++◌, Option, None, IsTrue, IsFalse}
 use Rattle.object_types.specs.declared.references.Ref.{Ref}
 use Rattle.object_types.specs.declared.values.Value.{Value}
 use Rattle.object_types.specs.declared.records.Mode.{Mode}
@@ -28,6 +28,10 @@ nothing = record { mode = Absent; owner = null; count = pos 0; owned = []; field
 pub record Heap : Type 0 where
   pub get : Ref → Record
   pub support : List Ref
+
+-- the support names every reference at which something stands
+abbrev pub IsFinite : Heap → Type 0
+IsFinite h = (o : Ref) → IsFalse (is_in o h.support) → h.get o ≡ nothing
 
 abbrev pub Same : Heap → Heap → Type 0
 Same h k = (o : Ref) → k.get o ≡ h.get o

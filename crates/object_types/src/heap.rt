@@ -213,7 +213,13 @@ impl Heap {
     }
 
     /// Puts the conjunct into those that the claim was made with, or takes it out.
-    pub fn set_shape(&mut self, c: Ref, shape: u32, values: &[Value], holds: bool) -> Result<(), AllocError>
+    pub fn set_shape(
+        &mut self,
+        c: Ref,
+        shape: u32,
+        values: &[Value],
+        holds: bool,
+    ) -> Result<(), AllocError>
         ensures ok { OnOk result (look_up self.new ≡ put_at (look_up self.old) c (with_shape (record { shape = shape; values = values.now }) holds (look_up self.old c))) }
         ensures err { OnErr result (self.new ≡ self.old) }
     {
@@ -254,7 +260,10 @@ impl Heap {
         ensures some { IfSome result (λ s. IsNewest (look_up self.now) ty s) }
         ensures none { IfNone result ((s : ℕ) → s < 4294967295 → IsTrue (is_absent (look_up self.now (ref ty s)).mode)) }
     {
-        let mut end = self.place(Ref { ty, serial: 4294967295 });
+        let mut end = self.place(Ref {
+            ty,
+            serial: 4294967295,
+        });
         while end > 0 {
             end -= 1;
             let stored = &self.records[end];
@@ -274,7 +283,10 @@ impl Heap {
         ensures none { IsNone result ↔ IsFalse (is_absent (look_up self.now (ref ty 4294967295)).mode) }
     {
         let _ = &self.records;
-        let last = self.view(Ref { ty, serial: 4294967295 });
+        let last = self.view(Ref {
+            ty,
+            serial: 4294967295,
+        });
         if !last.mode.is_absent() {
             return None;
         }

@@ -1,13 +1,13 @@
 //! References, values, and heaps: finite maps from references to records.
 #![tactic(auto)]
 
-pub mod references;
-pub mod values;
-pub mod sets;
 pub mod fields;
-pub mod shapes;
-pub mod records;
 pub mod heap;
-
+pub mod laws;
+pub mod records;
+pub mod references;
+pub mod sets;
+pub mod shapes;
 #[cfg(test)]
 mod tests;
+pub mod values;

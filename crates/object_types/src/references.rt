@@ -11,10 +11,7 @@ pub struct Ref {
 }
 
 /// The reference of no object.
-pub const NULL: Ref = Ref {
-    ty: 0,
-    serial: 0,
-};
+pub const NULL: Ref = Ref { ty: 0, serial: 0 };
 
 impl Ref {
     /// Whether the two are one reference.

@@ -7,9 +7,13 @@ use crate::values::Value;
 use std::test::Fail;
 
 const THREAD: Ref = Ref { ty: 1, serial: 1 };
+
 const CLAIM: Ref = Ref { ty: 2, serial: 1 };
+
 const A: Ref = Ref { ty: 3, serial: 1 };
+
 const B: Ref = Ref { ty: 3, serial: 2 };
+
 const C: Ref = Ref { ty: 4, serial: 1 };
 
 #[test]
@@ -52,10 +56,27 @@ fn views_what_was_set(rt: HostRuntime) -> Result<(), Fail> {
     ] {
         heap.set_status(o, mode, owner)?;
         heap.set_count(o, count)?;
-        assert!(rt; heap.view(o) == RecordView { mode, owner, count }, "at {count}");
+        assert!(rt;
+            heap.view(o) == RecordView { mode, owner, count },
+            "at {count}"
+        );
     }
-    assert!(rt; heap.view(C) == RecordView { mode: Mode::Open, owner: THREAD, count: 0 });
-    assert!(rt; heap.view(CLAIM) == RecordView { mode: Mode::Absent, owner: NULL, count: 0 });
+    assert!(rt;
+        heap.view(C)
+            == RecordView {
+                mode: Mode::Open,
+                owner: THREAD,
+                count: 0
+            }
+    );
+    assert!(rt;
+        heap.view(CLAIM)
+            == RecordView {
+                mode: Mode::Absent,
+                owner: NULL,
+                count: 0
+            }
+    );
     Ok(())
 }
 
@@ -76,7 +97,9 @@ fn sets_stand_in_order(rt: HostRuntime) -> Result<(), Fail> {
         heap.set_listed(CLAIM, member, holds)?;
         assert!(rt; heap.owned(A) == owned && heap.listed(CLAIM) == owned);
     }
-    assert!(rt; heap.owned(CLAIM).is_empty() && heap.listed(A).is_empty() && heap.owned(B).is_empty());
+    assert!(rt;
+        heap.owned(CLAIM).is_empty() && heap.listed(A).is_empty() && heap.owned(B).is_empty()
+    );
     Ok(())
 }
 
@@ -111,7 +134,10 @@ fn conjuncts_stand_in_order(rt: HostRuntime) -> Result<(), Fail> {
         let Some(entry) = seen.get(i) else {
             continue;
         };
-        assert!(rt; entry.shape == shape && entry.values.as_slice() == values, "at {i}");
+        assert!(rt;
+            entry.shape == shape && entry.values.as_slice() == values,
+            "at {i}"
+        );
     }
     assert!(rt; heap.shapes(A).is_empty());
     Ok(())
@@ -133,7 +159,10 @@ fn fresh_is_above_all_used(rt: HostRuntime) -> Result<(), Fail> {
     ] {
         heap.set_status(Ref { ty, serial }, mode, THREAD)?;
         heap.write(Ref { ty, serial }, 0, Value::Int(1))?;
-        assert!(rt; heap.fresh(ty).map(|r| r.serial) == fresh, "after {ty}.{serial}");
+        assert!(rt;
+            heap.fresh(ty).map(|r| r.serial) == fresh,
+            "after {ty}.{serial}"
+        );
     }
     assert!(rt; heap.fresh(4) == Some(Ref { ty: 4, serial: 1 }));
     Ok(())
@@ -147,8 +176,19 @@ fn first_is_the_least(rt: HostRuntime) -> Result<(), Fail> {
     heap.write(A, 0, Value::Int(1))?;
     heap.set_owned(B, A, true)?;
     heap.set_owned(B, A, false)?;
-    for (from, first) in [(NULL, Some(A)), (A, Some(A)), (B, Some(C)), (C, Some(C)), (Ref { ty: 4, serial: 2 }, None)] {
-        assert!(rt; heap.first(from) == first, "from {}.{}", from.ty, from.serial);
+    for (from, first) in [
+        (NULL, Some(A)),
+        (A, Some(A)),
+        (B, Some(C)),
+        (C, Some(C)),
+        (Ref { ty: 4, serial: 2 }, None),
+    ] {
+        assert!(rt;
+            heap.first(from) == first,
+            "from {}.{}",
+            from.ty,
+            from.serial
+        );
     }
     Ok(())
 }
@@ -172,7 +212,10 @@ fn content_is_all_but_the_status(rt: HostRuntime) -> Result<(), Fail> {
             4 => other.set_shape(A, 0, &[Value::Int(2)], true)?,
             _ => other.set_status(A, Mode::Freed, C)?,
         }
-        assert!(rt; other.same_content(&heap, A) == (changed == 5), "after change {changed}");
+        assert!(rt;
+            other.same_content(&heap, A) == (changed == 5),
+            "after change {changed}"
+        );
         assert!(rt; heap.same_content(&other, B));
     }
     Ok(())
