@@ -1,5 +1,5 @@
 -- The conjuncts of a claim before and after a change at a place.
-use Rattle.std.proofs.Common.{◌≡◌, ℕ, Bool, true, false, cond, List, length, refl, sym, ap, subst, ◌∙◌}
+use Rattle.std.proofs.Common.{◌≡◌, ℕ, Bool, true, false, List, sym}
 use Rattle.std.specs.List.{insert, remove}
 use Rattle.object_types.specs.declared.shapes.Entry.{Entry}
 use Rattle.object_types.specs.Shapes.{same_entry, entry_lt, set_entry}

@@ -1,16 +1,16 @@
 -- The kept fields before and after a change at a place.
-use Rattle.std.proofs.Common.{◌≡◌, ℕ, Bool, true, false, not, cond, ◌&&◌, ◌==◌, List, [], ◌∷◌, length, set, get_or, Some, None, Option, refl, sym, ap, subst, ◌∙◌}
+use Rattle.std.proofs.Common.{◌≡◌, ℕ, Bool, true, false, cond, ◌==◌, List, [], ◌∷◌, set, get_or, Some, None, Option, refl, sym, ap, subst, ◌∙◌}
 use Rattle.std.specs.Prelude.{nat_lt}
 use Rattle.std.specs.List.{insert, remove}
 use Rattle.std.specs.Option.{option_map}
-use Rattle.std.proofs.lemmas.Bool.{not_from_false, and_parts, and_from, false_from_ne_true, both_ways, eq-eqb, eqb-true}
+use Rattle.std.proofs.lemmas.Bool.{not_from_false, and_parts, and_from, eq-eqb, eqb-true}
 use Rattle.object_types.specs.declared.values.Value.{Value}
 use Rattle.object_types.specs.declared.fields.Kept.{Kept}
 use Rattle.object_types.specs.Values.{is_zero, kept, same_value}
 use Rattle.object_types.specs.Places.{is_ordered, replaced, taken_out, IsAt, GoesAt}
 use Rattle.object_types.specs.Sets.{every}
 use Rattle.object_types.specs.Fields.{field_of, same_field, same_kept, kept_lt, is_set, field_in, with_kept}
-use Rattle.object_types.proofs.Orders.{nat_order, value_order, apart, apart_turned}
+use Rattle.object_types.proofs.Orders.{nat_order, value_order}
 use Rattle.object_types.proofs.Placed.{tail_ordered, none_before_first, none_behind_first, set_at, insert_at, remove_at, absent_out, found_at, absent_at, ordered_replaced, ordered_filter, every_replaced, every_filter, at_key_replaced, at_key_taken_out}
 
 abbrev pub of : ℕ → Value → Kept

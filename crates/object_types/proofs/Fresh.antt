@@ -1,13 +1,13 @@
 -- The fresh serial of a heap is the one that its records determine; the list that is a heap names all that stands in it.
-use Rattle.std.proofs.Common.{◌≡◌, ◌≢◌, ℕ, suc, zero, ◌+◌, ◌-◌, ◌<◌, ◌≤◌, ◌⊎◌, inl, inr, max, Bool, true, false, not, cond, ◌&&◌, ◌||◌, ◌==◌, List, [], ◌∷◌, map, refl, sym, ap, subst, ◌∙◌, arith}
+use Rattle.std.proofs.Common.{◌≡◌, ◌≢◌, ℕ, ◌+◌, ◌-◌, ◌<◌, ◌≤◌, inl, inr, max, Bool, true, false, not, cond, ◌&&◌, ◌==◌, List, [], ◌∷◌, map, refl, sym, ap, subst, arith}
 use Rattle.std.proofs.lemmas.Bool.{both_ways, cases_lt, and_parts, and_from, or_cases, or_parts, eqb-true, eq-eqb, not-true}
 use Rattle.object_types.specs.declared.references.Ref.{Ref}
 use Rattle.object_types.specs.declared.records.Stored.{Stored}
 use Rattle.object_types.specs.References.{ref, same_ref}
 use Rattle.object_types.specs.Sets.{is_in}
-use Rattle.object_types.specs.Heap.{Heap, Record, IsFinite, nothing, is_absent, above, fresh}
+use Rattle.object_types.specs.Heap.{Heap, Record, IsFinite, is_absent, above, fresh}
 use Rattle.object_types.specs.Content.{IsFresh}
-use Rattle.object_types.specs.Lookups.{reference_of, look_up, heap_of}
+use Rattle.object_types.specs.Lookups.{reference_of, heap_of}
 use Rattle.object_types.proofs.Orders.{ref_order}
 
 -- an object of the type is or was at the reference

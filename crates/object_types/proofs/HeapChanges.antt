@@ -1,14 +1,14 @@
 -- The code's heap before and after a change of one record.
-use Rattle.std.proofs.Common.{◌≡◌, ℕ, suc, zero, ◌<◌, ◌≤◌, ◌&&◌, Bool, true, false, cond, List, [], ◌∷◌, length, get_or, set, Option, Some, None, refl, sym, ap, subst, ◌∙◌, arith}
-use Rattle.std.specs.List.{insert, find}
+use Rattle.std.proofs.Common.{◌≡◌, ℕ, suc, zero, ◌<◌, Bool, true, false, cond, List, [], ◌∷◌, length, get_or, set, Option, Some, refl, sym, ap, subst, ◌∙◌, arith}
+use Rattle.std.specs.List.{insert}
 use Rattle.std.proofs.lemmas.Bool.{and_parts}
 use Rattle.object_types.specs.declared.references.Ref.{Ref}
 use Rattle.object_types.specs.declared.records.Stored.{Stored}
 use Rattle.object_types.specs.References.{same_ref, ref_lt}
-use Rattle.object_types.specs.Places.{is_ordered, replaced, IsAt, GoesAt}
+use Rattle.object_types.specs.Places.{replaced, IsAt, GoesAt}
 use Rattle.object_types.specs.Sets.{every}
 use Rattle.object_types.specs.Heap.{Record, nothing, put_at}
-use Rattle.object_types.specs.Lookups.{reference_of, stored_lt, record_of, record_or_nothing, look_up, is_tidy, IsKept}
+use Rattle.object_types.specs.Lookups.{reference_of, record_of, record_or_nothing, look_up, is_tidy, IsKept}
 use Rattle.object_types.proofs.Orders.{ref_order}
 use Rattle.object_types.proofs.Placed.{set_at, insert_at, found_at, absent_at, ordered_replaced, every_replaced, at_key_replaced}
 

@@ -1,11 +1,9 @@
 -- Strict orders with a test for equality, and those of numbers, references, values and claims' conjuncts.
-use Rattle.std.proofs.Common.{◌≡◌, ℕ, Bool, true, false, not, ◌&&◌, ◌||◌, ◌==◌, ltb, eqb, List, [], ◌∷◌, ℤ, pos, negsuc, refl, sym, ap, subst, ◌∙◌, inl, inr, ◌⊎◌, arith}
+use Rattle.std.proofs.Common.{◌≡◌, Bool, true, false, ◌&&◌, ◌||◌, ◌==◌, List, [], ◌∷◌, ℤ, pos, negsuc, refl, sym, ap, subst, inl, inr, arith}
 use Rattle.std.specs.Prelude.{nat_lt, int_lt}
-use Rattle.std.proofs.lemmas.Bool.{both_ways, or_cases, or_parts, or_from, or_left, or_right, and_parts, and_from, and_cases, and_left, and_right, false_from_ne_true, eqb-true, eqb-false, eq-eqb, ltb-true, ltb-false, lt-ltb, le-ltb}
-use Rattle.object_types.specs.declared.references.Ref.{Ref}
+use Rattle.std.proofs.lemmas.Bool.{both_ways, or_cases, or_parts, or_from, or_left, or_right, and_parts, and_from, and_left, and_right, false_from_ne_true, eqb-true, eqb-false, eq-eqb, ltb-true, ltb-false, lt-ltb, le-ltb}
 use Rattle.object_types.specs.declared.values.Value.{Value}
 use Rattle.object_types.specs.declared.values.Value.TheVariants.{Int, Ref as Refers}
-use Rattle.object_types.specs.declared.shapes.Entry.{Entry}
 use Rattle.object_types.specs.References.{same_ref, ref_lt}
 use Rattle.object_types.specs.Values.{same_int, same_value, value_lt, same_values, values_lt}
 use Rattle.object_types.specs.Shapes.{entry_lt, same_entry}

@@ -1,11 +1,11 @@
 -- What a list that stands in the order of its keys has at the place of a key, and how it changes there.
-use Rattle.std.proofs.Common.{◌≡◌, ℕ, suc, zero, ◌+◌, ◌<◌, ◌≤◌, Bool, true, false, not, cond, ◌&&◌, ◌||◌, List, [], ◌∷◌, ◌++◌, length, get_or, take, drop, set, Option, Some, None, refl, sym, ap, subst, ◌∙◌, inl, inr, ◌⊎◌, arith}
+use Rattle.std.proofs.Common.{◌≡◌, ℕ, suc, zero, ◌<◌, ◌≤◌, Bool, true, false, not, cond, List, [], ◌∷◌, length, get_or, set, Option, Some, None, refl, sym, ap, subst, ◌∙◌, inl, inr, arith}
 use Rattle.std.specs.List.{insert, remove, find, filter}
 use Rattle.std.specs.List.Sorted.{IsPartitionPoint, IsPartitionedBy}
-use Rattle.std.proofs.lemmas.Bool.{both_ways, cases_lt, and_parts, and_from, false_from_ne_true, not_from_true, not_from_false}
+use Rattle.std.proofs.lemmas.Bool.{both_ways, cases_lt, and_parts, and_from, false_from_ne_true}
 use Rattle.object_types.specs.Places.{ordered_from, is_ordered, place, placed, replaced, taken_out, IsAt, GoesAt}
 use Rattle.object_types.specs.Sets.{every}
-use Rattle.object_types.proofs.Orders.{IsOrder, not_before_itself, apart, apart_turned, same_turned, same_not_before}
+use Rattle.object_types.proofs.Orders.{IsOrder, apart, apart_turned, same_turned}
 
 -- `partition_point` finds the place
 pub place_from_point : {X : Type 0} (p : X → Bool) (xs : List X) (i : ℕ) → i ≤ length xs → IsPartitionPoint (λ y. p y ≡ true) (λ y. p y ≡ false) xs i → place p xs ≡ i

@@ -1,18 +1,18 @@
 -- What a heap's list has and lacks: the first record that says something, the newest object of a type.
-use Rattle.std.proofs.Common.{◌≡◌, ◌≢◌, ℕ, suc, zero, ◌+◌, ◌-◌, ◌<◌, ◌≤◌, ◌^◌, ◌⊎◌, inl, inr, Bool, true, false, not, cond, ◌&&◌, ◌||◌, ◌==◌, List, [], ◌∷◌, length, get_or, Option, Some, None, refl, sym, ap, subst, ◌∙◌, arith, ℤ, pos}
+use Rattle.std.proofs.Common.{◌≡◌, ◌≢◌, ℕ, suc, ◌+◌, ◌-◌, ◌<◌, ◌≤◌, ◌^◌, ◌⊎◌, inl, inr, true, false, cond, ◌&&◌, ◌==◌, List, [], ◌∷◌, length, get_or, Some, refl, sym, ap, subst, ◌∙◌, arith, pos}
 use Rattle.std.specs.Prelude.{nat_lt}
 use Rattle.std.specs.List.{find}
-use Rattle.std.proofs.lemmas.Bool.{both_ways, cases_lt, and_parts, and_from, or_cases, or_left, or_right, false_from_ne_true, eqb-true, eq-eqb, ltb-true, lt-ltb}
+use Rattle.std.proofs.lemmas.Bool.{both_ways, cases_lt, and_parts, and_from, or_cases, or_right, eqb-true, eq-eqb, ltb-true, lt-ltb}
 use Rattle.object_types.specs.declared.references.Ref.{Ref}
 use Rattle.object_types.specs.declared.records.Mode.{Mode}
 use Rattle.object_types.specs.declared.records.Mode.TheVariants.{Absent, Open, Closed, Freed}
 use Rattle.object_types.specs.declared.records.Stored.{Stored}
 use Rattle.object_types.specs.References.{ref, null, same_ref, is_null, ref_lt}
 use Rattle.object_types.specs.Values.{is_zero_int}
-use Rattle.object_types.specs.Places.{is_ordered, place}
+use Rattle.object_types.specs.Places.{place}
 use Rattle.object_types.specs.Heap.{Record, nothing, is_absent}
 use Rattle.object_types.specs.Fields.{field_in}
-use Rattle.object_types.specs.Lookups.{reference_of, stored_lt, record_of, record_or_nothing, look_up, is_tidy, is_blank, IsKept}
+use Rattle.object_types.specs.Lookups.{reference_of, record_of, record_or_nothing, look_up, is_tidy, is_blank, IsKept}
 use Rattle.object_types.specs.Content.{IsFirst, IsFresh, IsNewest}
 use Rattle.object_types.proofs.Orders.{ref_order, int_order, not_before_itself}
 use Rattle.object_types.proofs.Placed.{place-le-length, earlier_below, below_place, above_place, own_at}

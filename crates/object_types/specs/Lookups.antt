@@ -1,10 +1,7 @@
 -- The code's heap: a list of stored records in reference order, each reference once, read as a heap. Own.
-use Rattle.std.specs.Prelude.{◌≡◌, ℕ, ◌^◌, Bool, true, ◌&&◌, nat_lt, ◌==◌, List, length, map, Option, Some, None}
+use Rattle.std.specs.Prelude.{◌≡◌, ◌^◌, Bool, true, ◌&&◌, nat_lt, ◌==◌, List, length, map, Option, Some, None}
 use Rattle.std.specs.List.{find}
 use Rattle.object_types.specs.declared.references.Ref.{Ref}
-use Rattle.object_types.specs.declared.values.Value.{Value}
-use Rattle.object_types.specs.declared.shapes.Entry.{Entry}
-use Rattle.object_types.specs.declared.records.Mode.{Mode}
 use Rattle.object_types.specs.declared.records.Stored.{Stored}
 use Rattle.object_types.specs.declared.records.Change.{Change}
 use Rattle.object_types.specs.declared.records.Change.TheVariants.{Status, Count, Field, Owned, Listed, Shape}

@@ -1,4 +1,4 @@
-use Rattle.std.proofs.Common.{◌≡◌, sym, ◌∙◌}
+use Rattle.std.proofs.Common.{sym, ◌∙◌}
 use Rattle.object_types.specs.Fields.{same_kept}
 use Rattle.object_types.proofs.FieldChanges.{kept_equal, kept_itself}
 use Rattle.object_types.proofs.Equal.{agree_next, elements_differ}

@@ -1,4 +1,3 @@
-use Rattle.std.proofs.Common.{◌≡◌, length, drop}
 use Rattle.object_types.proofs.Equal.{Agree}
 use Rattle.object_types.proofs.fields.same_fields.Given as goal
 

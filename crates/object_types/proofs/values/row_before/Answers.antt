@@ -1,4 +1,4 @@
-use Rattle.std.proofs.Common.{rules, sym, ◌∙◌, inl, inr}
+use Rattle.std.proofs.Common.{sym, ◌∙◌, inl, inr}
 use Rattle.object_types.proofs.Rows.{from_next, before_at_end}
 use Rattle.object_types.proofs.values.row_before.Goals as goal
 use Rattle.object_types.proofs.values.row_before.Goals.{then-loop-i-test+else-i-right, else-loop-i-test}

@@ -1,6 +1,6 @@
 use Rattle.std.proofs.Common.{◌≡◌, get_or, set, sym, subst, ap, ◌∙◌}
 use Rattle.std.specs.List.{insert}
-use Rattle.object_types.specs.Lookups.{record_of, changed, IsKept}
+use Rattle.object_types.specs.Lookups.{changed, IsKept}
 use Rattle.object_types.proofs.RecordChanges.{on_ok_map}
 use Rattle.object_types.proofs.HeapChanges.{Replaces, found_reference, found_record, look_up_absent, look_up_new, kept_new, set_replaces, insert_replaces}
 use Rattle.object_types.proofs.heap.Heap.change.Goals as goal

@@ -1,4 +1,4 @@
-use Rattle.std.proofs.Common.{◌≡◌, ◌<◌, ◌≤◌, get_or, length, sym, subst, ◌∙◌, rules, arith}
+use Rattle.std.proofs.Common.{◌≡◌, ◌<◌, ◌≤◌, get_or, length, sym, subst, ◌∙◌, rules}
 use Rattle.object_types.specs.Lookups.{IsKept}
 use Rattle.object_types.proofs.Present.{searched_start, searched_next, first_none, first_is}
 use Rattle.object_types.proofs.heap.Heap.first.Goals as goal

@@ -1,4 +1,4 @@
-use Rattle.std.proofs.Common.{◌≡◌, true, refl, sym, subst, ap, ◌∙◌}
+use Rattle.std.proofs.Common.{refl, sym, subst, ap, ◌∙◌}
 use Rattle.object_types.specs.Heap.{is_absent}
 use Rattle.object_types.specs.Lookups.{IsKept}
 use Rattle.object_types.proofs.Present.{fresh_above, fresh_first}

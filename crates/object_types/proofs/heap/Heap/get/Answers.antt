@@ -1,4 +1,4 @@
-use Rattle.std.proofs.Common.{◌≡◌, get_or, sym, subst}
+use Rattle.std.proofs.Common.{◌≡◌, get_or, subst}
 use Rattle.object_types.specs.Lookups.{IsKept}
 use Rattle.object_types.proofs.HeapChanges.{found_record, look_up_absent}
 use Rattle.object_types.proofs.heap.Heap.get.Goals as goal

@@ -1,4 +1,4 @@
-use Rattle.std.proofs.Common.{◌≡◌, ◌+◌, ◌-◌, ◌<◌, ◌≤◌, get_or, length, sym, subst, ◌∙◌, arith}
+use Rattle.std.proofs.Common.{◌≡◌, ◌+◌, ◌-◌, get_or, sym, subst, ◌∙◌, arith}
 use Rattle.object_types.specs.Lookups.{IsKept}
 use Rattle.object_types.proofs.Present.{AbsentFrom, within_length, newest_lower, newest_found, newest_none}
 use Rattle.object_types.proofs.heap.Heap.newest.Goals as goal

@@ -1,7 +1,6 @@
-use Rattle.std.proofs.Common.{◌≡◌, true, sym, subst, ◌∙◌, ap, rules}
+use Rattle.std.proofs.Common.{sym, rules}
 use Rattle.std.proofs.lemmas.List.Sorted.{IsPartitionPoint-from_clause}
 use Rattle.object_types.specs.References.{ref_lt, same_ref}
-use Rattle.object_types.specs.Places.{is_ordered, place}
 use Rattle.object_types.specs.Lookups.{reference_of}
 use Rattle.object_types.proofs.Orders.{ref_order}
 use Rattle.object_types.proofs.Placed.{place_from_point, partitioned}

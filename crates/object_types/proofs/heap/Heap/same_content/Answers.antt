@@ -1,4 +1,4 @@
-use Rattle.std.proofs.Common.{◌≡◌, sym, ◌∙◌}
+use Rattle.std.proofs.Common.{sym, ◌∙◌}
 use Rattle.object_types.proofs.FieldChanges.{look_ups_determine}
 use Rattle.object_types.proofs.heap.Heap.same_content.Goals as goal
 
