@@ -259,6 +259,7 @@ impl Heap {
     fn newest(&self, ty: u32) -> Option<u32>
         ensures some { IfSome result (λ s. IsNewest (look_up self.now) ty s) }
         ensures none { IfNone result ((s : ℕ) → s < 4294967295 → IsTrue (is_absent (look_up self.now (ref ty s)).mode)) }
+        ensures kept { IsKept self.now }
     {
         let mut end = self.place(Ref {
             ty,
@@ -282,7 +283,6 @@ impl Heap {
         ensures some { IfSome result (λ r. (r.ty ≡ ty) × IsFresh (look_up self.now) ty r.serial) }
         ensures none { IsNone result ↔ IsFalse (is_absent (look_up self.now (ref ty 4294967295)).mode) }
     {
-        let _ = &self.records;
         let last = self.view(Ref {
             ty,
             serial: 4294967295,
