@@ -1,5 +1,6 @@
 -- The values of operands and tests. From ISO/IEC 9899 6.5.9, 6.5.13 and 6.5.14, for operands that keep their mathematical value.
-use Rattle.std.specs.Prelude.{ℕ, ℤ, pos, negsuc, Bool, true, false, not, ◌&&◌, ◌||◌, ◌==◌, ◌≤ℤ◌, List, slice_index_or}
+use Rattle.std.specs.Prelude.{ℕ, ℤ, pos, negsuc, Bool, not, ◌&&◌, ◌||◌, ◌≤ℤ◌, List, slice_index_or}
+pub use Rattle.object_types.specs.Values.{same_int}
 use Rattle.first_form.specs.declared.tree.Operand.{Operand}
 use Rattle.first_form.specs.declared.tree.Operand.TheVariants.{Parameter, Number}
 use Rattle.first_form.specs.declared.tree.Comparison.{Comparison}
@@ -20,12 +21,6 @@ IsInt n = (least_int ≤ℤ n) × (n ≤ℤ greatest_int)
 abbrev pub operand_value : List ℤ → Operand → ℤ
 operand_value locals (Parameter i) = slice_index_or locals i (pos 0)
 operand_value locals (Number n) = pos n
-
-abbrev pub same_int : ℤ → ℤ → Bool
-same_int (pos a) (pos b) = a == b
-same_int (pos a) (negsuc b) = false
-same_int (negsuc a) (pos b) = false
-same_int (negsuc a) (negsuc b) = a == b
 
 abbrev pub comparison_value : Comparison → ℤ → ℤ → Bool
 comparison_value Equal a b = same_int a b
