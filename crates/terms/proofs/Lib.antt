@@ -1,3 +1,4 @@
 pub mod Lists
 pub mod Valuations
 pub mod Numbering
+pub mod Sorts

@@ -1,5 +1,5 @@
 -- What the numbering of a formula gives: the number stands for the formula, and the terms before it stay.
-use Rattle.std.proofs.Common.{◌≡◌, ℕ, ℤ, pos, zero, suc, List, [], ◌∷◌, ◌++◌, length, Contains, Some, slice_get, ◌⊎◌, inl, inr, refl, ap, sym, ◌∙◌, subst, append_assoc}
+use Rattle.std.proofs.Common.{◌≡◌, ℕ, ℤ, pos, List, [], ◌∷◌, ◌++◌, Some, slice_get, inl, inr, refl, ap, sym, ◌∙◌, subst, append_assoc}
 use Rattle.terms.specs.declared.term.Term.{Term}
 use Rattle.terms.specs.declared.term.Kind.{Kind}
 use Rattle.terms.specs.Formula.{leaf, unary, binary, Numbered, Formula, Formulas, Node, Stop, With, term, Interns, Numbers, AllNumbers, Stands, AllStand}

@@ -1,4 +1,4 @@
-use Rattle.std.proofs.Common.{◌≡◌, ℕ, zero, suc, ◌+◌, ◌<◌, ◌≤◌, List, [], ◌∷◌, map, length, All, Some, None, Option, slice_get, get_or, ◌⊎◌, inl, inr, refl, ap, sym, ◌∙◌, subst, arith, ℤ, pos, Bool, true, false, cond, nat_eq, eq-eqb, not, ◌&&◌, ◌||◌, ◌+ℤ◌, ◌-ℤ◌, ◌≤ℤ◌}
+use Rattle.std.proofs.Common.{◌≡◌, ℕ, zero, suc, ◌+◌, ◌<◌, ◌≤◌, List, [], ◌∷◌, map, length, All, Some, None, Option, slice_get, ◌⊎◌, inl, inr, refl, ap, sym, ◌∙◌, subst, arith, ℤ, Bool, true, false, cond, nat_eq, eq-eqb, not, ◌&&◌, ◌||◌, ◌≤ℤ◌}
 use Rattle.std.proofs.Common.{◌++◌, length-append}
 use Rattle.std.proofs.lemmas.Option.{slice_get_within, slice_get_cases}
 use Rattle.std.proofs.lemmas.List.Elements.{All-head, All-tail}
@@ -32,6 +32,7 @@ has_value e Imp n xs deny = deny (BoolValue (not (truth (first xs)) || truth (se
 has_value e Eq n xs deny = not_not_decided (first xs ≡ second xs) deny
 has_value e Le n xs deny = not_not_decided (number (first xs) ≤ℤ number (second xs)) deny
 has_value e Good n xs deny = deny (BoolValue (e.good (heap (first xs))), refl)
+has_value e k n xs deny = deny (e.other k n xs, refl)
 
 -- two valuations that agree below n give arguments below n the same values
 map_same : {X : Type 0} (v w : ℕ → X) (n : ℕ) (xs : List ℕ) → All (λ a. a < n) xs → ((i : ℕ) → i < n → v i ≡ w i) → map v xs ≡ map w xs
@@ -118,6 +119,7 @@ means_one e Imp n xs x y p q = p ∙ sym q
 means_one e Eq n xs x y p q = decides_one _ x y p q
 means_one e Le n xs x y p q = decides_one _ x y p q
 means_one e Good n xs x y p q = p ∙ sym q
+means_one e k n xs x y p q = p ∙ sym q
 
 at_place : (e : Env) (ts : List Term) (v w : ℕ → Value) → IsTermList ts → IsValuation e ts v → IsValuation e ts w → (n : ℕ) → ((i : ℕ) → i < n → v i ≡ w i) → n < length ts → (o : Option Term) → slice_get ts n ≡ o → v n ≡ w n
 at_place e ts v w b p q n below l None g = elim ((slice_get_cases ts n).1) [ inl h ↦ (let e : slice_get ts n ≡ Some h.0 = h.2 in cc) | inr h ↦ absurd (omega arith) ]

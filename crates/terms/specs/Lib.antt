@@ -1,3 +1,4 @@
 pub mod TermList
 pub mod Meaning
 pub mod Formula
+pub mod Sorts

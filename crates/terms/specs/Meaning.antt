@@ -1,20 +1,21 @@
-use Rattle.std.specs.Prelude.{◌≡◌, ℕ, ◌+◌, ◌<◌, ◌≤◌, ◌⊎◌, ◌↔◌, List, [], ◌∷◌, map, length, All, Some, None, Option, IfSome, slice_get, get_or, take, ℤ, pos, ◌+ℤ◌, ◌-ℤ◌, ◌≤ℤ◌, Bool, true, false, not, ◌&&◌, ◌||◌, cond, IsTrue}
+use Rattle.std.specs.Prelude.{◌≡◌, ℕ, ◌<◌, ◌⊎◌, List, [], ◌∷◌, map, Some, slice_get, get_or, ℤ, pos, ◌≤ℤ◌, Bool, true, false, not, ◌&&◌, ◌||◌, cond}
 use Rattle.terms.specs.declared.term.Term.{Term}
 use Rattle.terms.specs.declared.term.Literal.{Literal}
 use Rattle.terms.specs.declared.term.Kind.{Kind}
 use Rattle.terms.specs.declared.term.Kind.TheVariants.{Int, Ci, Ch, True, Not, And, Or, Imp, Eq, Le, Good}
 use Rattle.object_types.specs.Heap.{Heap, empty_heap}
 
--- An environment: what the constants stand for, by their numbers, and which heaps count as good. From first-order logic.
-pub record Env : Type 0 where
-  pub integers : ℤ → ℤ
-  pub heaps : ℤ → Heap
-  pub good : Heap → Bool
-
 pub data Value : Type 0 where
   BoolValue : Bool → Value
   IntValue : ℤ → Value
   HeapValue : Heap → Value
+
+-- An environment: what the constants stand for, by their numbers, which heaps count as good, and the kinds whose meaning comes with the programs that make them. From first-order logic.
+pub record Env : Type 0 where
+  pub integers : ℤ → ℤ
+  pub heaps : ℤ → Heap
+  pub good : Heap → Bool
+  pub other : Kind → ℤ → List Value → Value
 
 abbrev pub truth : Value → Bool
 truth (BoolValue b) = b
@@ -56,6 +57,7 @@ Means e Imp n xs x = x ≡ BoolValue (not (truth (first xs)) || truth (second xs
 Means e Eq n xs x = Decides x (first xs ≡ second xs)
 Means e Le n xs x = Decides x (number (first xs) ≤ℤ number (second xs))
 Means e Good n xs x = x ≡ BoolValue (e.good (heap (first xs)))
+Means e k n xs x = x ≡ e.other k n xs
 
 -- v gives each term of the list its value
 pub record IsValuation (e : Env) (terms : List Term) (v : ℕ → Value) : Type 0 where
