@@ -6,8 +6,8 @@ use Rattle.terms.specs.declared.term.Term.{Term}
 use Rattle.terms.specs.declared.term.Kind.{Kind}
 use Rattle.terms.specs.Formula.{Numbered, Formula, Formulas, Node, Stop, With, term, Interns, Numbers, AllNumbers, Stands, AllStand}
 use Rattle.term_bank.specs.Bank.{IsBank}
-use Rattle.term_bank.proofs.Banks.{get_taken, get_kept, AreShared, shared_pushed, bank_shared, bank_of}
-use Rattle.terms.proofs.Numbering.{numbers_stand, all_numbers_stand, Extends}
+use Rattle.term_bank.proofs.Banks.{contained_at, get_taken, get_kept, AreShared, shared_pushed, bank_shared, bank_of}
+use Rattle.terms.proofs.Numbering.{numbers_stand, all_numbers_stand, Extends, interns_extends, get_extended}
 
 abbrev AreDistinct : List Term → Type 0
 AreDistinct ts = (i j : ℕ) (t : Term) → slice_get ts i ≡ Some t → slice_get ts j ≡ Some t → i ≡ j
@@ -112,3 +112,32 @@ mutual
 pub numbered : (f : Formula) (old new : List Term) (id : ℕ) → IsBank old → Numbered f old new id → length new ≤ 1_048_576 → Stands new id f × IsBank new
 numbered f old new id b h l =
     ((numbers_stand f old new id h.is).1, bank_of new (numbers_shared f old new id (bank_shared old b) h.is).0 l)
+
+-- a formula has one numbering
+
+distinct_extended : (old new : List Term) → Extends old new → AreDistinct new → AreDistinct old
+distinct_extended old new e d i j t g h = d i j t (get_extended old new i t e g) (get_extended old new j t e h)
+
+interns_same : (old : List Term) (t : Term) (new other : List Term) (id also : ℕ) → AreDistinct old → Interns old t new id → Interns old t other also → (new ≡ other) × (id ≡ also)
+interns_same old t new other id also d (inl a) (inl b) = (a.0 ∙ sym b.0, d id also t a.1 b.1)
+interns_same old t new other id also d (inl a) (inr b) = absurd (b.0 (contained_at old id t a.1))
+interns_same old t new other id also d (inr a) (inl b) = absurd (a.0 (contained_at old also t b.1))
+interns_same old t new other id also d (inr a) (inr b) = (a.1 ∙ sym b.1, a.2 ∙ sym b.2)
+
+mutual
+  numbers_same : (f : Formula) (old new other : List Term) (id also : ℕ) → AreDistinct new → Numbers f old new id → Numbers f old other also → (new ≡ other) × (id ≡ also)
+  numbers_same (Node k n fs) old new other id also d (mid, args, all, i) (mid', args', all', i') =
+      let p = all_same fs old mid mid' args args' (distinct_extended mid new (interns_extends mid new (term k n args) id i) d) all all' in
+      interns_same mid (term k n args) new other id also (distinct_extended mid new (interns_extends mid new (term k n args) id i) d) i
+      (subst (λ (m : List Term). Interns m (term k n args) other also) (sym p.0) (subst (λ (xs : List ℕ). Interns mid' (term k n xs) other also) (sym p.1) i'))
+
+  all_same : (fs : Formulas) (old new other : List Term) (ids also : List ℕ) → AreDistinct new → AllNumbers fs old new ids → AllNumbers fs old other also → (new ≡ other) × (ids ≡ also)
+  all_same Stop old new other ids also d h i = (h.0 ∙ sym i.0, h.1 ∙ sym i.1)
+  all_same (With f fs) old new other ids also d (m, a, as', x, y, e) (m', b, bs, x', y', e') =
+      let ext = (all_numbers_stand fs m new as' y).0 in
+      let p = numbers_same f old m m' a b (distinct_extended m new ext d) x x' in
+      let q = all_same fs m new other as' bs d y (subst (λ (z : List Term). AllNumbers fs z other bs) (sym p.0) y') in
+      (q.0, e ∙ ap (λ z. z ∷ as') p.1 ∙ ap (λ zs. b ∷ zs) q.1 ∙ sym e')
+
+pub numbered_same : (f : Formula) (old new other : List Term) (id also : ℕ) → IsBank new → Numbered f old new id → Numbered f old other also → (new ≡ other) × (id ≡ also)
+numbered_same f old new other id also list a b = numbers_same f old new other id also list.distinct a.is b.is

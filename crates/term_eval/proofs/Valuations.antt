@@ -5,8 +5,9 @@ use Rattle.std.proofs.lemmas.List.Elements.{All-head, All-tail}
 use Rattle.terms.specs.declared.term.Term.{Term}
 use Rattle.terms.specs.declared.term.Kind.{Kind}
 use Rattle.terms.specs.declared.term.Kind.TheVariants.{Int, Ci, Ch, True, Not, And, Or, Imp, Eq, Le, Good}
-use Rattle.terms.specs.TermList.{IsTermList}
-use Rattle.terms.specs.Meaning.{Env, Value, BoolValue, IntValue, HeapValue, truth, number, heap, first, second, Decides, Means, IsValuation, NotNot, HaveValuation, IsStable, IsLeastFailure, IsAlwaysTrue}
+use Rattle.term_bank.specs.Bank.{IsBank}
+use Rattle.term_eval.specs.Meaning.{Env, Value, BoolValue, IntValue, HeapValue, truth, number, heap, first, second, Decides, Means, IsValuation, NotNot, HaveValuation, IsStable, IsLeastFailure, IsAlwaysTrue}
+use Rattle.terms.proofs.Lists.{get_front}
 use borrow.Author.Count.{below_more}
 use Rattle.std.proofs.lemmas.Bool.Decides.{nat_tests}
 
@@ -57,14 +58,14 @@ put_below : {X : Type 0} (v : ℕ → X) (n : ℕ) (x : X) (i : ℕ) → i < n �
 unfolding put
 put_below v n x i h = grind (arith, nat_tests)
 
-kept : (e : Env) (ts : List Term) → IsTermList ts → (v w : ℕ → Value) (n : ℕ) → ((i : ℕ) → i < n → v i ≡ w i) → (i : ℕ) → i < n → HasValue e ts v i → HasValue e ts w i
+kept : (e : Env) (ts : List Term) → IsBank ts → (v w : ℕ → Value) (n : ℕ) → ((i : ℕ) → i < n → v i ≡ w i) → (i : ℕ) → i < n → HasValue e ts v i → HasValue e ts w i
 unfolding HasValue
 kept e ts b v w n same i l h t g =
     let m : map v t.args ≡ map w t.args = map_same v w i t.args (b.downward i t g) (λ j k. same j (omega arith)) in
     let s : v i ≡ w i = same i l in
     subst (λ (xs : List Value). Means e t.kind t.index xs (w i)) m (subst (λ (x : Value). Means e t.kind t.index (map v t.args) x) s (h t g))
 
-one_more : (e : Env) (ts : List Term) → IsTermList ts → (n : ℕ) (v : ℕ → Value) → ((i : ℕ) → i < n → HasValue e ts v i) → (o : Option Term) → slice_get ts n ≡ o → NotNot ((w : ℕ → Value) × ((i : ℕ) → i < n + 1 → HasValue e ts w i))
+one_more : (e : Env) (ts : List Term) → IsBank ts → (n : ℕ) (v : ℕ → Value) → ((i : ℕ) → i < n → HasValue e ts v i) → (o : Option Term) → slice_get ts n ≡ o → NotNot ((w : ℕ → Value) × ((i : ℕ) → i < n + 1 → HasValue e ts w i))
 unfolding HasValue
 one_more e ts b n v h None g deny = deny (v, below_more (HasValue e ts v) n h (λ t k. cc))
 one_more e ts b n v h (Some t) g deny =
@@ -82,17 +83,17 @@ one_more e ts b n v h (Some t) g deny =
           (subst (λ (y : Value). Means e t.kind t.index (map v t.args) y) (sym (put_same v n x)) m))),
     ))
 
-up_to : (e : Env) (ts : List Term) → IsTermList ts → (n : ℕ) → NotNot ((v : ℕ → Value) × ((i : ℕ) → i < n → HasValue e ts v i))
+up_to : (e : Env) (ts : List Term) → IsBank ts → (n : ℕ) → NotNot ((v : ℕ → Value) × ((i : ℕ) → i < n → HasValue e ts v i))
 up_to e ts b zero deny = deny ((λ _. BoolValue false), λ i l. absurd (omega arith))
 up_to e ts b (suc n) deny =
     up_to e ts b n (λ (v, h). one_more e ts b n v h (slice_get ts n) refl (λ (w, k). deny (w, λ i l. k i (omega arith))))
 
-pub exists : (e : Env) (ts : List Term) → IsTermList ts → HaveValuation e ts
+pub exists : (e : Env) (ts : List Term) → IsBank ts → HaveValuation e ts
 unfolding HasValue
 exists e ts b deny =
     up_to e ts b (length ts) (λ (v, h). deny (v, record { at = λ i t g. h i (slice_get_within ts i t g) t g }))
 
-pub decide : (e : Env) (ts : List Term) (test : Bool) → IsTermList ts → ((v : ℕ → Value) → IsValuation e ts v → test ≡ true) → test ≡ true
+pub decide : (e : Env) (ts : List Term) (test : Bool) → IsBank ts → ((v : ℕ → Value) → IsValuation e ts v → test ≡ true) → test ≡ true
 decide e ts true b h = refl
 decide e ts false b h = absurd (exists e ts b (λ (v, k). let f : false ≡ true = h v k in cc))
 
@@ -121,19 +122,19 @@ means_one e Le n xs x y p q = decides_one _ x y p q
 means_one e Good n xs x y p q = p ∙ sym q
 means_one e k n xs x y p q = p ∙ sym q
 
-at_place : (e : Env) (ts : List Term) (v w : ℕ → Value) → IsTermList ts → IsValuation e ts v → IsValuation e ts w → (n : ℕ) → ((i : ℕ) → i < n → v i ≡ w i) → n < length ts → (o : Option Term) → slice_get ts n ≡ o → v n ≡ w n
+at_place : (e : Env) (ts : List Term) (v w : ℕ → Value) → IsBank ts → IsValuation e ts v → IsValuation e ts w → (n : ℕ) → ((i : ℕ) → i < n → v i ≡ w i) → n < length ts → (o : Option Term) → slice_get ts n ≡ o → v n ≡ w n
 at_place e ts v w b p q n below l None g = elim ((slice_get_cases ts n).1) [ inl h ↦ (let e : slice_get ts n ≡ Some h.0 = h.2 in cc) | inr h ↦ absurd (omega arith) ]
 at_place e ts v w b p q n below l (Some t) g =
     let m : map v t.args ≡ map w t.args = map_same v w n t.args (b.downward n t g) below in
     means_one e t.kind t.index (map w t.args) (v n) (w n) (subst (λ (xs : List Value). Means e t.kind t.index xs (v n)) m (p.at n t g)) (q.at n t g)
 
-one_below : (e : Env) (ts : List Term) (v w : ℕ → Value) → IsTermList ts → IsValuation e ts v → IsValuation e ts w → (n : ℕ) → n ≤ length ts → (i : ℕ) → i < n → v i ≡ w i
+one_below : (e : Env) (ts : List Term) (v w : ℕ → Value) → IsBank ts → IsValuation e ts v → IsValuation e ts w → (n : ℕ) → n ≤ length ts → (i : ℕ) → i < n → v i ≡ w i
 one_below e ts v w b p q zero l i h = absurd (omega arith)
 one_below e ts v w b p q (suc n) l i h =
     let below : (i : ℕ) → i < n → v i ≡ w i = one_below e ts v w b p q n (omega arith) in
     below_more (λ i. v i ≡ w i) n below (at_place e ts v w b p q n below (omega arith) (slice_get ts n) refl) i (omega arith)
 
-pub unique : (e : Env) (ts : List Term) (v w : ℕ → Value) → IsTermList ts → IsValuation e ts v → IsValuation e ts w → (i : ℕ) → i < length ts → v i ≡ w i
+pub unique : (e : Env) (ts : List Term) (v w : ℕ → Value) → IsBank ts → IsValuation e ts v → IsValuation e ts w → (i : ℕ) → i < length ts → v i ≡ w i
 unique e ts v w b p q = one_below e ts v w b p q (length ts) (omega arith)
 
 -- there is a least failure, up to double negation, if each instance is stable
@@ -159,13 +160,8 @@ stable_same true false h = absurd (h (λ e. cc))
 stable_same false true h = absurd (h (λ e. cc))
 stable_same false false h = refl
 
--- a list's front
-pub get_front : {X : Type 0} (xs ys : List X) (i : ℕ) (x : X) → slice_get xs i ≡ Some x → slice_get (xs ++ ys) i ≡ Some x
-get_front [] ys i x h = cc
-get_front (z ∷ xs) ys zero x h = h
-get_front (z ∷ xs) ys (suc i) x h = get_front xs ys i x h
-
-list_front : (ts us : List Term) → IsTermList (ts ++ us) → IsTermList ts
+-- a bank's front
+list_front : (ts us : List Term) → IsBank (ts ++ us) → IsBank ts
 list_front ts us b = record {
   few = omega (arith, b.few, length-append ts us);
   downward = λ i t g. b.downward i t (get_front ts us i t g);
@@ -176,6 +172,6 @@ valued_front : (e : Env) (ts us : List Term) (v : ℕ → Value) → IsValuation
 valued_front e ts us v k = record { at = λ i t g. k.at i t (get_front ts us i t g) }
 
 -- what is always true with more terms in the list is so without them
-pub front : (ts us : List Term) (root : ℕ) → IsTermList (ts ++ us) → root < length ts → IsAlwaysTrue (ts ++ us) root → IsAlwaysTrue ts root
+pub front : (ts us : List Term) (root : ℕ) → IsBank (ts ++ us) → root < length ts → IsAlwaysTrue (ts ++ us) root → IsAlwaysTrue ts root
 front ts us root b l always e v k =
     decide e (ts ++ us) (truth (v root)) b (λ w q. ap truth (unique e ts v w (list_front ts us b) k (valued_front e ts us w q) root l) ∙ always e w q)

@@ -1,0 +1,4 @@
+//! Environments, and what terms mean in them.
+#![tactic(auto)]
+
+pub mod meaning;
