@@ -4,6 +4,5 @@
 pub mod numbers;
 pub mod sort;
 pub mod term;
-
 #[cfg(test)]
 mod tests;
