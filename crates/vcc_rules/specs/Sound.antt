@@ -5,7 +5,7 @@ use Rattle.terms.specs.declared.term.Term.{Term}
 use Rattle.terms.specs.declared.term.Literal.{Literal}
 use Rattle.terms.specs.declared.term.Kind.{Kind}
 use Rattle.terms.specs.declared.term.Kind.TheVariants.{Int, Ci, Ch, True, Not, And, Or, Imp, Eq, Le, Good}
-use Rattle.terms.specs.Meaning.{Env, Value, BoolValue, IntValue, HeapValue, truth, number, heap, first, second, Decides, Means, IsValuation, clause_true, literal_true}
+use Rattle.term_eval.specs.Meaning.{Env, Value, BoolValue, IntValue, HeapValue, truth, number, heap, first, second, Decides, Means, IsValuation, clause_true, literal_true}
 use Rattle.vcc_rules.specs.Law.{EarlierHold, IsConsequence}
 use Rattle.vcc_rules.specs.Rows.{IsRoot, IsPart, yes, no, connective_clauses, IsConnective, same_literal, same_sign, is_known, negated, open_of, Closes}
 
