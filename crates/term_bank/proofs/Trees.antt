@@ -1,9 +1,8 @@
 -- What a number stands for.
-use Rattle.std.proofs.Common.{◌≡◌, ℕ, ℤ, zero, suc, ◌+◌, ◌<◌, ◌≤◌, ◌↔◌, List, [], ◌∷◌, ◌++◌, length, take, All, Contains, Some, None, slice_get, ◌⊎◌, inl, inr, refl, ap, sym, ◌∙◌, subst, arith, length-append}
+use Rattle.std.proofs.Common.{◌≡◌, ℕ, ◌<◌, ◌≤◌, ◌↔◌, List, [], ◌∷◌, ◌++◌, length, take, All, Some, slice_get, inl, inr, refl, ap, sym, ◌∙◌, subst, arith, length-append}
 use Rattle.std.proofs.lemmas.Option.{slice_get_within}
 use Rattle.std.proofs.lemmas.List.Elements.{All-head, All-tail, All-nil, All-cons, All-weaker}
 use Rattle.terms.specs.declared.term.Term.{Term}
-use Rattle.terms.specs.declared.term.Kind.{Kind}
 use Rattle.terms.specs.Formula.{Numbered, Formula, Formulas, Node, Stop, With, term, Interns, Numbers, AllNumbers, Stands, AllStand}
 use Rattle.term_bank.specs.Bank.{IsBank}
 use Rattle.term_bank.proofs.Banks.{contained_at, get_taken, get_kept, AreShared, shared_pushed, bank_shared, bank_of}

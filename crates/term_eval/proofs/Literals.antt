@@ -1,5 +1,5 @@
 -- Terms that are numbers.
-use Rattle.std.proofs.Common.{◌≡◌, ℕ, ℤ, List, [], Some, slice_get, refl, ap, sym, ◌∙◌}
+use Rattle.std.proofs.Common.{◌≡◌, ℕ, ℤ, List, [], Some, slice_get, refl, ap, ◌∙◌}
 use Rattle.terms.specs.declared.term.Term.{Term}
 use Rattle.terms.specs.declared.term.Kind.TheVariants as k
 use Rattle.terms.specs.Formula.{term}
