@@ -1,5 +1,5 @@
 -- The classes of tokens: the end, names, numbers, and each word and sign by itself. Own.
-use Rattle.std.specs.Prelude.{ℕ, ◌+◌, List, [], ◌∷◌, slice_index_or}
+use Rattle.std.specs.Prelude.{ℕ, List, [], ◌∷◌, slice_index_or}
 use Rattle.int_ranges.specs.declared.ctype.CType.TheVariants.{Int}
 use Rattle.c_syntax.specs.declared.token.Keyword.{Keyword}
 use Rattle.c_syntax.specs.declared.token.Keyword.TheVariants as k

@@ -1,7 +1,6 @@
 -- The grammar. From ISO/IEC 9899 6.5 to 6.9 for C, and from the VCC manual for what stands behind `_(`; own: `vcc_spawn`, and what of C is left out. A row is a production, its parts from left to right; the function at its end builds the tree, and takes the parts' values from right to left.
 use Rattle.std.specs.Prelude.{◌⊎◌, ℕ, Bool, true, false, List, [], ◌∷◌, Option, Some, None}
 use Rattle.std.proofs.Common.{inl, inr}
-use Rattle.int_ranges.specs.declared.ctype.CType.{CType}
 use Rattle.int_ranges.specs.declared.ctype.CType.TheVariants as c
 use Rattle.ebnf.specs.Rules.{Part, token, below, nothing, row, by_value, by_next, many, until, Rule, form, pick, chain, climb}
 use Rattle.c_syntax.specs.declared.token.Span.{Span}
@@ -40,7 +39,7 @@ use Rattle.c_syntax.specs.Items.{Written, Clause, Param, FunctionTree, FieldTree
 
 -- ---- nonterminals
 
--- the levels of expressions, from the operators that bind tightest on
+-- the levels of expressions, from the operators that bind tightest on; code has none above the conditional
 pub data Tier : Type 0 where
   Prefix : Tier
   Product : Tier
@@ -71,6 +70,7 @@ pub data N : Type 0 where
   AnyPlace : N
   GhostName : N
   GhostOther : N
+  SetStart : N
   OwnedSet : N
   InterlockedCall : N
   Allocation : N
@@ -110,6 +110,7 @@ V OtherPlace = Exp
 V AnyPlace = Exp
 V GhostName = Exp
 V GhostOther = Exp
+V SetStart = Exp
 V OwnedSet = Exp
 V InterlockedCall = Inter × Option Comparison
 V Allocation = Span × Id
@@ -271,21 +272,25 @@ abbrev quantified : (class : ℕ) → Quantifier → R Exp
 quantified class q = form (word class ▷ gtype ▷ name ▷ word (sign s.Semicolon) ▷ whole_spec ▷ nothing (λ x m n ty o. e.Quantified o q ty.1 n x))
 
 -- what only a spec has
-abbrev spec_primary : R Exp
-spec_primary =
+abbrev spec_word : R Exp
+spec_word =
     pick (constant (spec w.True) constants.True) (pick (constant (spec w.False) constants.False) (pick (constant (spec w.This) constants.This) (pick (constant (spec w.Me) constants.Me) (pick (constant (spec w.Result) constants.Result)
     (pick (apply (spec w.Old) functions.Old whole_spec) (pick (apply (spec w.Unchanged) functions.Unchanged whole_spec) (pick (apply (spec w.Wrapped) functions.Wrapped spec_exp) (pick (apply (spec w.WrappedUnclaimed) functions.WrappedUnclaimed spec_exp)
     (pick (apply (spec w.Mutable) functions.Mutable spec_exp) (pick (apply (spec w.Fresh) functions.Fresh spec_exp)
     (pick (form (word (spec w.Mine) ▷ inside (list spec_exp) ▷ nothing (λ xs o. e.Mine o (exps_of xs))))
     (pick (form (word (spec w.ClaimsObject) ▷ two spec_exp spec_exp (λ x y o. e.ClaimsObject o x y)))
-    (pick (form (word (spec w.Claims) ▷ two spec_exp whole_spec (λ x y o. e.Claims o x y))) (pick (quantified (spec w.Forall) quantifiers.ForAll) (quantified (spec w.Exists) quantifiers.Exists)))))))))))))))
+    (form (word (spec w.Claims) ▷ two spec_exp whole_spec (λ x y o. e.Claims o x y)))))))))))))))
+
+-- quantifiers reach as far right as they can
+abbrev quantifier : R Exp
+quantifier = pick (quantified (spec w.Forall) quantifiers.ForAll) (quantified (spec w.Exists) quantifiers.Exists)
 
 abbrev unnamed : Mode → R Exp
 unnamed m = pick number (pick null (group m))
 
-abbrev primary : Mode → R Exp
+abbrev pub primary : Mode → R Exp
 primary Code = pick named (unnamed Code)
-primary InSpec = pick named (pick (unnamed InSpec) spec_primary)
+primary InSpec = pick named (pick (unnamed InSpec) (pick spec_word quantifier))
 
 -- what stands behind an arrow
 abbrev field : P (Span → Exp → Exp)
@@ -369,8 +374,10 @@ level m Equality = equalities m same change always (primary m)
 level m Conjunction = conjunctions m same change always (primary m)
 level m Disjunction = disjunctions m same change always (primary m)
 level m Choice = choices m same change always (primary m)
-level m Implication = implications m same change always (primary m)
-level m Equivalence = equivalences m same change always (primary m)
+level Code Implication = choices Code same change always (primary Code)
+level InSpec Implication = implications InSpec same change always (primary InSpec)
+level Code Equivalence = choices Code same change always (primary Code)
+level InSpec Equivalence = equivalences InSpec same change always (primary InSpec)
 
 -- ---- left and right sides
 
@@ -412,9 +419,12 @@ ghost_name = chain named is_no_owns ghost_arrow apply_to
 abbrev ghost_other : R Exp
 ghost_other = chain (after_arrow (below Unnamed (λ x. x)) ghost_arrow) is_no_owns ghost_arrow apply_to
 
--- what stands right of `\in`
+-- what stands right of `\in` begins with a primary; a quantifier isn't one here
+abbrev set_start : R Exp
+set_start = pick named (pick (unnamed InSpec) spec_word)
+
 abbrev owned_set : R Exp
-owned_set = climb (below (Primary InSpec) (λ x. x)) (sign s.Arrow) (suffix InSpec ▷ nothing (λ f o l. f o.place l)) (owns ▷ nothing (λ f o l. f o.place l))
+owned_set = climb (below SetStart (λ x. x)) (sign s.Arrow) (suffix InSpec ▷ nothing (λ f o l. f o.place l)) (owns ▷ nothing (λ f o l. f o.place l))
 
 -- what follows the word `malloc`
 abbrev size_of : P (Span → Id)
@@ -753,8 +763,9 @@ item_of =
     pick (form (attribute_list ▷ many attribute_list (λ xs. xs) ▷ word (key k.Struct) ▷ name ▷ struct_behind ▷ nothing (λ f n p more one. i.Struct (f n p (concat (one ∷ more))))))
     (pick (form (word (key k.Struct) ▷ name ▷ by_next (struct_behind ▷ nothing (λ f n p. i.Struct (f n p []))) pointer_function ▷ nothing (λ f n p. f n p))) (form (result_type ▷ name ▷ function_behind ▷ nothing (λ f n ty. i.Function (f n ty.0 ty.1)))))
 
+-- a program with an item at least
 abbrev program : R (List Item)
-program = form (many (below ItemOf (λ x. x)) (λ xs. xs))
+program = form (below ItemOf (λ x. x) ▷ many (below ItemOf (λ x. x)) (λ xs. xs) ▷ nothing (λ xs x. x ∷ xs))
 
 -- ---- the grammar
 
@@ -768,6 +779,7 @@ rule OtherPlace = other_place
 rule AnyPlace = any_place
 rule GhostName = ghost_name
 rule GhostOther = ghost_other
+rule SetStart = set_start
 rule OwnedSet = owned_set
 rule InterlockedCall = interlocked_call
 rule Allocation = allocation

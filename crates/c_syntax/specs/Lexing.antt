@@ -8,7 +8,6 @@ use Rattle.c_syntax.specs.declared.fault.LexFault.{LexFault}
 use Rattle.c_syntax.specs.declared.fault.LexFault.TheVariants as f
 use Rattle.c_syntax.specs.Tokens as t
 use Rattle.c_syntax.specs.Tokens.{Word, IsToken, IsLexical, IsLongest}
-use Rattle.c_syntax.specs.Numbers.{Base, HasShape}
 
 -- where a byte stands: how many bytes are before it, its line and its column
 pub record Position : Type 0 where

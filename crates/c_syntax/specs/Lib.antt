@@ -8,3 +8,6 @@ pub mod Statements
 pub mod Items
 pub mod Classes
 pub mod Grammar
+pub mod Language
+pub mod Readable
+pub mod Laws

@@ -1,5 +1,5 @@
 -- How numbers are written, and which type each has. From ISO/IEC 9899 6.4.4.1; own: no octal numbers, and which suffixes there are.
-use Rattle.std.specs.Prelude.{◌≡◌, ℕ, ◌+◌, ◌<◌, ◌≤◌, Bool, true, false, ◌&&◌, ◌||◌, ◌==◌, nat_le, if◌then◌else◌, pos, int_le, List, [], ◌∷◌, ◌++◌, length, map, All, Option, Some, None, slice_index, codes}
+use Rattle.std.specs.Prelude.{◌≡◌, ℕ, ◌+◌, ◌<◌, Bool, true, false, ◌&&◌, ◌||◌, nat_le, if◌then◌else◌, pos, int_le, List, [], ◌∷◌, ◌++◌, length, map, All, Option, Some, None, slice_index, codes}
 use Rattle.std.specs.Str.Parse.{digits_value}
 use Rattle.int_ranges.specs.declared.ctype.CType.{CType}
 use Rattle.int_ranges.specs.declared.ctype.CType.TheVariants.{Int, Unsigned, LongLong, UnsignedLongLong}

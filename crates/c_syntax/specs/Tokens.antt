@@ -1,5 +1,5 @@
 -- Tokens: which text is which token. From ISO/IEC 9899 6.4; own: which words and signs there are.
-use Rattle.std.specs.Prelude.{◌≡◌, ◌≢◌, ◌⊎◌, ℕ, ◌<◌, ◌≤◌, Bool, true, ◌||◌, ◌==◌, List, [], ◌∷◌, ◌++◌, length, take, All, slice_index, codes}
+use Rattle.std.specs.Prelude.{◌≡◌, ◌≢◌, ◌⊎◌, ℕ, ◌<◌, ◌≤◌, Bool, true, ◌||◌, ◌==◌, List, ◌∷◌, length, take, All, slice_index}
 use Rattle.int_ranges.specs.declared.ctype.CType.{CType}
 use Rattle.c_syntax.specs.declared.token.Keyword.{Keyword}
 use Rattle.c_syntax.specs.declared.token.SpecWord.{SpecWord}
