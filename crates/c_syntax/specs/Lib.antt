@@ -11,3 +11,4 @@ pub mod Grammar
 pub mod Language
 pub mod Readable
 pub mod Laws
+pub mod Rows
