@@ -107,6 +107,106 @@ items =
     item 6 (Key k.Void ∷ name ∷ Mark s.Open ∷ Mark s.Close ∷ Mark s.BraceOpen ∷ Mark s.Annotation ∷ Key k.Ghost ∷ name ∷ Mark s.Arrow ∷ Spec w.Owns ∷ Mark s.AddAssign ∷ Mark s.BraceOpen ∷ name ∷ Mark s.Comma ∷ name ∷ Mark s.BraceClose ∷ Mark s.Close ∷ Mark s.BraceClose ∷ []) ∷
     -- void f() { _(ghost c = \make_claim({ p }, p->\closed)) _(ghost \destroy_claim(c, { p })) }
     item 7 (Key k.Void ∷ name ∷ Mark s.Open ∷ Mark s.Close ∷ Mark s.BraceOpen ∷ Mark s.Annotation ∷ Key k.Ghost ∷ name ∷ Mark s.Assign ∷ Spec w.MakeClaim ∷ Mark s.Open ∷ Mark s.BraceOpen ∷ name ∷ Mark s.BraceClose ∷ Mark s.Comma ∷ name ∷ Mark s.Arrow ∷ Spec w.Closed ∷ Mark s.Close ∷ Mark s.Close ∷ Mark s.Annotation ∷ Key k.Ghost ∷ Spec w.DestroyClaim ∷ Mark s.Open ∷ name ∷ Mark s.Comma ∷ Mark s.BraceOpen ∷ name ∷ Mark s.BraceClose ∷ Mark s.Close ∷ Mark s.Close ∷ Mark s.BraceClose ∷ []) ∷
+    -- int g(void) { return -1; }
+    item 5 (Key k.Int ∷ name ∷ Mark s.Open ∷ Key k.Void ∷ Mark s.Close ∷ Mark s.BraceOpen ∷ Key k.Return ∷ Mark s.Minus ∷ number ∷ Mark s.Semicolon ∷ Mark s.BraceClose ∷ []) ∷
+    -- struct T *h() { return NULL; }
+    item 4 (Key k.Struct ∷ name ∷ Mark s.Star ∷ name ∷ Mark s.Open ∷ Mark s.Close ∷ Mark s.BraceOpen ∷ Key k.Return ∷ Key k.Null ∷ Mark s.Semicolon ∷ Mark s.BraceClose ∷ []) ∷
+    -- unsigned long long f() { }
+    item 2 (Key k.Unsigned ∷ Key k.Long ∷ Key k.Long ∷ name ∷ Mark s.Open ∷ Mark s.Close ∷ Mark s.BraceOpen ∷ Mark s.BraceClose ∷ []) ∷
+    -- long long int f() { }
+    item 2 (Key k.Long ∷ Key k.Long ∷ Key k.Int ∷ name ∷ Mark s.Open ∷ Mark s.Close ∷ Mark s.BraceOpen ∷ Mark s.BraceClose ∷ []) ∷
+    -- unsigned int f(unsigned a, long long b) { }
+    item 2 (Key k.Unsigned ∷ Key k.Int ∷ name ∷ Mark s.Open ∷ Key k.Unsigned ∷ name ∷ Mark s.Comma ∷ Key k.Long ∷ Key k.Long ∷ name ∷ Mark s.Close ∷ Mark s.BraceOpen ∷ Mark s.BraceClose ∷ []) ∷
+    -- void f(struct S *p _(ghost \claim c) _(ghost int x)) { }
+    item 2 (Key k.Void ∷ name ∷ Mark s.Open ∷ Key k.Struct ∷ name ∷ Mark s.Star ∷ name ∷ Mark s.Annotation ∷ Key k.Ghost ∷ Spec w.Claim ∷ name ∷ Mark s.Close ∷ Mark s.Annotation ∷ Key k.Ghost ∷ Key k.Int ∷ name ∷ Mark s.Close ∷ Mark s.Close ∷ Mark s.BraceOpen ∷ Mark s.BraceClose ∷ []) ∷
+    -- void f() _(writes \span(l), \extent(m), x) { }
+    item 4 (Key k.Void ∷ name ∷ Mark s.Open ∷ Mark s.Close ∷ Mark s.Annotation ∷ Key k.Writes ∷ Spec w.Span ∷ Mark s.Open ∷ name ∷ Mark s.Close ∷ Mark s.Comma ∷ Spec w.Extent ∷ Mark s.Open ∷ name ∷ Mark s.Close ∷ Mark s.Comma ∷ name ∷ Mark s.Close ∷ Mark s.BraceOpen ∷ Mark s.BraceClose ∷ []) ∷
+    -- void f() _(ensures \old(x) == x) { }
+    item 5 (Key k.Void ∷ name ∷ Mark s.Open ∷ Mark s.Close ∷ Mark s.Annotation ∷ Key k.Ensures ∷ Spec w.Old ∷ Mark s.Open ∷ name ∷ Mark s.Close ∷ Mark s.Equal ∷ name ∷ Mark s.Close ∷ Mark s.BraceOpen ∷ Mark s.BraceClose ∷ []) ∷
+    -- struct S { struct T *p; volatile unsigned n; _(ghost volatile \claim c) };
+    item 2 (Key k.Struct ∷ name ∷ Mark s.BraceOpen ∷ Key k.Struct ∷ name ∷ Mark s.Star ∷ name ∷ Mark s.Semicolon ∷ Key k.Volatile ∷ Key k.Unsigned ∷ name ∷ Mark s.Semicolon ∷ Mark s.Annotation ∷ Key k.Ghost ∷ Key k.Volatile ∷ Spec w.Claim ∷ name ∷ Mark s.Close ∷ Mark s.BraceClose ∷ Mark s.Semicolon ∷ []) ∷
+    -- void f() { _(assert a * b + c * d) }
+    item 6 (Key k.Void ∷ name ∷ Mark s.Open ∷ Mark s.Close ∷ Mark s.BraceOpen ∷ Mark s.Annotation ∷ Key k.Assert ∷ name ∷ Mark s.Star ∷ name ∷ Mark s.Plus ∷ name ∷ Mark s.Star ∷ name ∷ Mark s.Close ∷ Mark s.BraceClose ∷ []) ∷
+    -- void f() { _(assert a + b < c + d) }
+    item 6 (Key k.Void ∷ name ∷ Mark s.Open ∷ Mark s.Close ∷ Mark s.BraceOpen ∷ Mark s.Annotation ∷ Key k.Assert ∷ name ∷ Mark s.Plus ∷ name ∷ Mark s.Less ∷ name ∷ Mark s.Plus ∷ name ∷ Mark s.Close ∷ Mark s.BraceClose ∷ []) ∷
+    -- void f() { _(assert a < b == c < d) }
+    item 6 (Key k.Void ∷ name ∷ Mark s.Open ∷ Mark s.Close ∷ Mark s.BraceOpen ∷ Mark s.Annotation ∷ Key k.Assert ∷ name ∷ Mark s.Less ∷ name ∷ Mark s.Equal ∷ name ∷ Mark s.Less ∷ name ∷ Mark s.Close ∷ Mark s.BraceClose ∷ []) ∷
+    -- void f() { _(assert a == b && c == d) }
+    item 6 (Key k.Void ∷ name ∷ Mark s.Open ∷ Mark s.Close ∷ Mark s.BraceOpen ∷ Mark s.Annotation ∷ Key k.Assert ∷ name ∷ Mark s.Equal ∷ name ∷ Mark s.And ∷ name ∷ Mark s.Equal ∷ name ∷ Mark s.Close ∷ Mark s.BraceClose ∷ []) ∷
+    -- void f() { _(assert a && b || c && d) }
+    item 6 (Key k.Void ∷ name ∷ Mark s.Open ∷ Mark s.Close ∷ Mark s.BraceOpen ∷ Mark s.Annotation ∷ Key k.Assert ∷ name ∷ Mark s.And ∷ name ∷ Mark s.Or ∷ name ∷ Mark s.And ∷ name ∷ Mark s.Close ∷ Mark s.BraceClose ∷ []) ∷
+    -- void f() { _(assert a || b ? c || d : e || g) }
+    item 6 (Key k.Void ∷ name ∷ Mark s.Open ∷ Mark s.Close ∷ Mark s.BraceOpen ∷ Mark s.Annotation ∷ Key k.Assert ∷ name ∷ Mark s.Or ∷ name ∷ Mark s.Question ∷ name ∷ Mark s.Or ∷ name ∷ Mark s.Colon ∷ name ∷ Mark s.Or ∷ name ∷ Mark s.Close ∷ Mark s.BraceClose ∷ []) ∷
+    -- void f() { _(assert (a || b ==> c || d) && e) }
+    item 8 (Key k.Void ∷ name ∷ Mark s.Open ∷ Mark s.Close ∷ Mark s.BraceOpen ∷ Mark s.Annotation ∷ Key k.Assert ∷ Mark s.Open ∷ name ∷ Mark s.Or ∷ name ∷ Mark s.Implies ∷ name ∷ Mark s.Or ∷ name ∷ Mark s.Close ∷ Mark s.And ∷ name ∷ Mark s.Close ∷ Mark s.BraceClose ∷ []) ∷
+    -- void f() { _(assert a ==> b <==> c ==> d) }
+    item 6 (Key k.Void ∷ name ∷ Mark s.Open ∷ Mark s.Close ∷ Mark s.BraceOpen ∷ Mark s.Annotation ∷ Key k.Assert ∷ name ∷ Mark s.Implies ∷ name ∷ Mark s.Equivalent ∷ name ∷ Mark s.Implies ∷ name ∷ Mark s.Close ∷ Mark s.BraceClose ∷ []) ∷
+    -- void f() { _(assert -a * !b) }
+    item 6 (Key k.Void ∷ name ∷ Mark s.Open ∷ Mark s.Close ∷ Mark s.BraceOpen ∷ Mark s.Annotation ∷ Key k.Assert ∷ Mark s.Minus ∷ name ∷ Mark s.Star ∷ Mark s.Not ∷ name ∷ Mark s.Close ∷ Mark s.BraceClose ∷ []) ∷
+    -- void f() { _(assert (((a))) - b - c) }
+    item 9 (Key k.Void ∷ name ∷ Mark s.Open ∷ Mark s.Close ∷ Mark s.BraceOpen ∷ Mark s.Annotation ∷ Key k.Assert ∷ Mark s.Open ∷ Mark s.Open ∷ Mark s.Open ∷ name ∷ Mark s.Close ∷ Mark s.Close ∷ Mark s.Close ∷ Mark s.Minus ∷ name ∷ Mark s.Minus ∷ name ∷ Mark s.Close ∷ Mark s.BraceClose ∷ []) ∷
+    -- void f() { _(assert (((a))) % b / c) }
+    item 9 (Key k.Void ∷ name ∷ Mark s.Open ∷ Mark s.Close ∷ Mark s.BraceOpen ∷ Mark s.Annotation ∷ Key k.Assert ∷ Mark s.Open ∷ Mark s.Open ∷ Mark s.Open ∷ name ∷ Mark s.Close ∷ Mark s.Close ∷ Mark s.Close ∷ Mark s.Percent ∷ name ∷ Mark s.Slash ∷ name ∷ Mark s.Close ∷ Mark s.BraceClose ∷ []) ∷
+    -- void f() { _(assert (((a))) && b && c) }
+    item 9 (Key k.Void ∷ name ∷ Mark s.Open ∷ Mark s.Close ∷ Mark s.BraceOpen ∷ Mark s.Annotation ∷ Key k.Assert ∷ Mark s.Open ∷ Mark s.Open ∷ Mark s.Open ∷ name ∷ Mark s.Close ∷ Mark s.Close ∷ Mark s.Close ∷ Mark s.And ∷ name ∷ Mark s.And ∷ name ∷ Mark s.Close ∷ Mark s.BraceClose ∷ []) ∷
+    -- void f() { _(assert (((a))) ==> b ==> c) }
+    item 8 (Key k.Void ∷ name ∷ Mark s.Open ∷ Mark s.Close ∷ Mark s.BraceOpen ∷ Mark s.Annotation ∷ Key k.Assert ∷ Mark s.Open ∷ Mark s.Open ∷ Mark s.Open ∷ name ∷ Mark s.Close ∷ Mark s.Close ∷ Mark s.Close ∷ Mark s.Implies ∷ name ∷ Mark s.Implies ∷ name ∷ Mark s.Close ∷ Mark s.BraceClose ∷ []) ∷
+    -- void f() { _(assert (((a))) <==> b <==> c) }
+    item 9 (Key k.Void ∷ name ∷ Mark s.Open ∷ Mark s.Close ∷ Mark s.BraceOpen ∷ Mark s.Annotation ∷ Key k.Assert ∷ Mark s.Open ∷ Mark s.Open ∷ Mark s.Open ∷ name ∷ Mark s.Close ∷ Mark s.Close ∷ Mark s.Close ∷ Mark s.Equivalent ∷ name ∷ Mark s.Equivalent ∷ name ∷ Mark s.Close ∷ Mark s.BraceClose ∷ []) ∷
+    -- void f() { _(assert (((a))) ? b : c ? d : e) }
+    item 8 (Key k.Void ∷ name ∷ Mark s.Open ∷ Mark s.Close ∷ Mark s.BraceOpen ∷ Mark s.Annotation ∷ Key k.Assert ∷ Mark s.Open ∷ Mark s.Open ∷ Mark s.Open ∷ name ∷ Mark s.Close ∷ Mark s.Close ∷ Mark s.Close ∷ Mark s.Question ∷ name ∷ Mark s.Colon ∷ name ∷ Mark s.Question ∷ name ∷ Mark s.Colon ∷ name ∷ Mark s.Close ∷ Mark s.BraceClose ∷ []) ∷
+    -- void f() { _(assert p->x->\owner->\claim_count > 0) }
+    item 8 (Key k.Void ∷ name ∷ Mark s.Open ∷ Mark s.Close ∷ Mark s.BraceOpen ∷ Mark s.Annotation ∷ Key k.Assert ∷ name ∷ Mark s.Arrow ∷ name ∷ Mark s.Arrow ∷ Spec w.Owner ∷ Mark s.Arrow ∷ Spec w.ClaimCount ∷ Mark s.Greater ∷ number ∷ Mark s.Close ∷ Mark s.BraceClose ∷ []) ∷
+    -- void f() { _(assert \exists struct S *p; p \in x->\owns && p->y) }
+    item 8 (Key k.Void ∷ name ∷ Mark s.Open ∷ Mark s.Close ∷ Mark s.BraceOpen ∷ Mark s.Annotation ∷ Key k.Assert ∷ Spec w.Exists ∷ Key k.Struct ∷ name ∷ Mark s.Star ∷ name ∷ Mark s.Semicolon ∷ name ∷ Spec w.In ∷ name ∷ Mark s.Arrow ∷ Spec w.Owns ∷ Mark s.And ∷ name ∷ Mark s.Arrow ∷ name ∷ Mark s.Close ∷ Mark s.BraceClose ∷ []) ∷
+    -- void f() { _(assert \claims(c, \unchanged(p->x) ==> 1) || \wrapped0(c) || \mutable(\this) || \fresh(\me)) }
+    item 11 (Key k.Void ∷ name ∷ Mark s.Open ∷ Mark s.Close ∷ Mark s.BraceOpen ∷ Mark s.Annotation ∷ Key k.Assert ∷ Spec w.Claims ∷ Mark s.Open ∷ name ∷ Mark s.Comma ∷ Spec w.Unchanged ∷ Mark s.Open ∷ name ∷ Mark s.Arrow ∷ name ∷ Mark s.Close ∷ Mark s.Implies ∷ number ∷ Mark s.Close ∷ Mark s.Or ∷ Spec w.WrappedUnclaimed ∷ Mark s.Open ∷ name ∷ Mark s.Close ∷ Mark s.Or ∷ Spec w.Mutable ∷ Mark s.Open ∷ Spec w.This ∷ Mark s.Close ∷ Mark s.Or ∷ Spec w.Fresh ∷ Mark s.Open ∷ Spec w.Me ∷ Mark s.Close ∷ Mark s.Close ∷ Mark s.BraceClose ∷ []) ∷
+    -- void f() { _(assert \mine(a, b->c)) }
+    item 6 (Key k.Void ∷ name ∷ Mark s.Open ∷ Mark s.Close ∷ Mark s.BraceOpen ∷ Mark s.Annotation ∷ Key k.Assert ∷ Spec w.Mine ∷ Mark s.Open ∷ name ∷ Mark s.Comma ∷ name ∷ Mark s.Arrow ∷ name ∷ Mark s.Close ∷ Mark s.Close ∷ Mark s.BraceClose ∷ []) ∷
+    -- void f() { _(assert \true <= \false) }
+    item 5 (Key k.Void ∷ name ∷ Mark s.Open ∷ Mark s.Close ∷ Mark s.BraceOpen ∷ Mark s.Annotation ∷ Key k.Assert ∷ Spec w.True ∷ Mark s.LessEqual ∷ Spec w.False ∷ Mark s.Close ∷ Mark s.BraceClose ∷ []) ∷
+    -- void f() { do ; while (1); }
+    item 4 (Key k.Void ∷ name ∷ Mark s.Open ∷ Mark s.Close ∷ Mark s.BraceOpen ∷ Key k.Do ∷ Mark s.Semicolon ∷ Key k.While ∷ Mark s.Open ∷ number ∷ Mark s.Close ∷ Mark s.Semicolon ∷ Mark s.BraceClose ∷ []) ∷
+    -- void f() { do _(invariant 1) ; while (1); }
+    item 5 (Key k.Void ∷ name ∷ Mark s.Open ∷ Mark s.Close ∷ Mark s.BraceOpen ∷ Key k.Do ∷ Mark s.Annotation ∷ Key k.Invariant ∷ number ∷ Mark s.Close ∷ Mark s.Semicolon ∷ Key k.While ∷ Mark s.Open ∷ number ∷ Mark s.Close ∷ Mark s.Semicolon ∷ Mark s.BraceClose ∷ []) ∷
+    -- void f() { for (i = 0; i < 9; i++) _(invariant i <= 9) { } }
+    item 6 (Key k.Void ∷ name ∷ Mark s.Open ∷ Mark s.Close ∷ Mark s.BraceOpen ∷ Key k.For ∷ Mark s.Open ∷ name ∷ Mark s.Assign ∷ number ∷ Mark s.Semicolon ∷ name ∷ Mark s.Less ∷ number ∷ Mark s.Semicolon ∷ name ∷ Mark s.Increment ∷ Mark s.Close ∷ Mark s.Annotation ∷ Key k.Invariant ∷ name ∷ Mark s.LessEqual ∷ number ∷ Mark s.Close ∷ Mark s.BraceOpen ∷ Mark s.BraceClose ∷ Mark s.BraceClose ∷ []) ∷
+    -- void f() { x += 1; }
+    item 4 (Key k.Void ∷ name ∷ Mark s.Open ∷ Mark s.Close ∷ Mark s.BraceOpen ∷ name ∷ Mark s.AddAssign ∷ number ∷ Mark s.Semicolon ∷ Mark s.BraceClose ∷ []) ∷
+    -- void f() { x--; }
+    item 4 (Key k.Void ∷ name ∷ Mark s.Open ∷ Mark s.Close ∷ Mark s.BraceOpen ∷ name ∷ Mark s.Decrement ∷ Mark s.Semicolon ∷ Mark s.BraceClose ∷ []) ∷
+    -- void f() { p->x -= y; }
+    item 5 (Key k.Void ∷ name ∷ Mark s.Open ∷ Mark s.Close ∷ Mark s.BraceOpen ∷ name ∷ Mark s.Arrow ∷ name ∷ Mark s.SubtractAssign ∷ name ∷ Mark s.Semicolon ∷ Mark s.BraceClose ∷ []) ∷
+    -- void f() { x = f(y, z _(ghost c)); }
+    item 5 (Key k.Void ∷ name ∷ Mark s.Open ∷ Mark s.Close ∷ Mark s.BraceOpen ∷ name ∷ Mark s.Assign ∷ name ∷ Mark s.Open ∷ name ∷ Mark s.Comma ∷ name ∷ Mark s.Annotation ∷ Key k.Ghost ∷ name ∷ Mark s.Close ∷ Mark s.Close ∷ Mark s.Semicolon ∷ Mark s.BraceClose ∷ []) ∷
+    -- void f() { int x = f(); }
+    item 4 (Key k.Void ∷ name ∷ Mark s.Open ∷ Mark s.Close ∷ Mark s.BraceOpen ∷ Key k.Int ∷ name ∷ Mark s.Assign ∷ name ∷ Mark s.Open ∷ Mark s.Close ∷ Mark s.Semicolon ∷ Mark s.BraceClose ∷ []) ∷
+    -- void f() { free(p); }
+    item 4 (Key k.Void ∷ name ∷ Mark s.Open ∷ Mark s.Close ∷ Mark s.BraceOpen ∷ Key k.Free ∷ Mark s.Open ∷ name ∷ Mark s.Close ∷ Mark s.Semicolon ∷ Mark s.BraceClose ∷ []) ∷
+    -- void f() { return; }
+    item 3 (Key k.Void ∷ name ∷ Mark s.Open ∷ Mark s.Close ∷ Mark s.BraceOpen ∷ Key k.Return ∷ Mark s.Semicolon ∷ Mark s.BraceClose ∷ []) ∷
+    -- void f() { _(wrap p) }
+    item 4 (Key k.Void ∷ name ∷ Mark s.Open ∷ Mark s.Close ∷ Mark s.BraceOpen ∷ Mark s.Annotation ∷ Key k.Wrap ∷ name ∷ Mark s.Close ∷ Mark s.BraceClose ∷ []) ∷
+    -- void f() { _(unwrapping p) { } }
+    item 4 (Key k.Void ∷ name ∷ Mark s.Open ∷ Mark s.Close ∷ Mark s.BraceOpen ∷ Mark s.Annotation ∷ Key k.Unwrapping ∷ name ∷ Mark s.Close ∷ Mark s.BraceOpen ∷ Mark s.BraceClose ∷ Mark s.BraceClose ∷ []) ∷
+    -- void f() { _(ghost \claim c;) }
+    item 5 (Key k.Void ∷ name ∷ Mark s.Open ∷ Mark s.Close ∷ Mark s.BraceOpen ∷ Mark s.Annotation ∷ Key k.Ghost ∷ Spec w.Claim ∷ name ∷ Mark s.Semicolon ∷ Mark s.Close ∷ Mark s.BraceClose ∷ []) ∷
+    -- void f() { _(ghost _(wrap p);) }
+    item 5 (Key k.Void ∷ name ∷ Mark s.Open ∷ Mark s.Close ∷ Mark s.BraceOpen ∷ Mark s.Annotation ∷ Key k.Ghost ∷ Mark s.Annotation ∷ Key k.Wrap ∷ name ∷ Mark s.Close ∷ Mark s.Semicolon ∷ Mark s.Close ∷ Mark s.BraceClose ∷ []) ∷
+    -- void f() { _(ghost if (a) x = 1; else x = 2;) }
+    item 6 (Key k.Void ∷ name ∷ Mark s.Open ∷ Mark s.Close ∷ Mark s.BraceOpen ∷ Mark s.Annotation ∷ Key k.Ghost ∷ Key k.If ∷ Mark s.Open ∷ name ∷ Mark s.Close ∷ name ∷ Mark s.Assign ∷ number ∷ Mark s.Semicolon ∷ Key k.Else ∷ name ∷ Mark s.Assign ∷ number ∷ Mark s.Semicolon ∷ Mark s.Close ∷ Mark s.BraceClose ∷ []) ∷
+    -- void f() { _(ghost p->\owns = { };) }
+    item 6 (Key k.Void ∷ name ∷ Mark s.Open ∷ Mark s.Close ∷ Mark s.BraceOpen ∷ Mark s.Annotation ∷ Key k.Ghost ∷ name ∷ Mark s.Arrow ∷ Spec w.Owns ∷ Mark s.Assign ∷ Mark s.BraceOpen ∷ Mark s.BraceClose ∷ Mark s.Semicolon ∷ Mark s.Close ∷ Mark s.BraceClose ∷ []) ∷
+    -- void f() { _(ghost (p)->q->\owns -= q) }
+    item 8 (Key k.Void ∷ name ∷ Mark s.Open ∷ Mark s.Close ∷ Mark s.BraceOpen ∷ Mark s.Annotation ∷ Key k.Ghost ∷ Mark s.Open ∷ name ∷ Mark s.Close ∷ Mark s.Arrow ∷ name ∷ Mark s.Arrow ∷ Spec w.Owns ∷ Mark s.SubtractAssign ∷ name ∷ Mark s.Close ∷ Mark s.BraceClose ∷ []) ∷
+    -- void f() { x = InterlockedCompareExchange(&p->f, 1, 0) != 2; }
+    item 7 (Key k.Void ∷ name ∷ Mark s.Open ∷ Mark s.Close ∷ Mark s.BraceOpen ∷ name ∷ Mark s.Assign ∷ Key k.CompareExchange ∷ Mark s.Open ∷ Mark s.Ampersand ∷ name ∷ Mark s.Arrow ∷ name ∷ Mark s.Comma ∷ number ∷ Mark s.Comma ∷ number ∷ Mark s.Close ∷ Mark s.NotEqual ∷ number ∷ Mark s.Semicolon ∷ Mark s.BraceClose ∷ []) ∷
+    -- void f() { x = InterlockedIncrement(&p->n); }
+    item 6 (Key k.Void ∷ name ∷ Mark s.Open ∷ Mark s.Close ∷ Mark s.BraceOpen ∷ name ∷ Mark s.Assign ∷ Key k.Increment ∷ Mark s.Open ∷ Mark s.Ampersand ∷ name ∷ Mark s.Arrow ∷ name ∷ Mark s.Close ∷ Mark s.Semicolon ∷ Mark s.BraceClose ∷ []) ∷
+    -- void f() { (a)->b = 1; }
+    item 6 (Key k.Void ∷ name ∷ Mark s.Open ∷ Mark s.Close ∷ Mark s.BraceOpen ∷ Mark s.Open ∷ name ∷ Mark s.Close ∷ Mark s.Arrow ∷ name ∷ Mark s.Assign ∷ number ∷ Mark s.Semicolon ∷ Mark s.BraceClose ∷ []) ∷
+    -- void f() { p = malloc(sizeof(struct S)); }
+    item 5 (Key k.Void ∷ name ∷ Mark s.Open ∷ Mark s.Close ∷ Mark s.BraceOpen ∷ name ∷ Mark s.Assign ∷ Key k.Malloc ∷ Mark s.Open ∷ Key k.Sizeof ∷ Mark s.Open ∷ Key k.Struct ∷ name ∷ Mark s.Close ∷ Mark s.Close ∷ Mark s.Semicolon ∷ Mark s.BraceClose ∷ []) ∷
     []
 
 abbrev faults : List Bool
@@ -155,6 +255,178 @@ faults =
     unexpected (Key k.Void ∷ name ∷ Mark s.Open ∷ Mark s.Close ∷ Mark s.BraceOpen ∷ Key k.Int ∷ []) (Mark s.BraceClose ∷ []) ∷
     -- void f(void^, int a) { }
     unexpected (Key k.Void ∷ name ∷ Mark s.Open ∷ Key k.Void ∷ []) (Mark s.Comma ∷ Key k.Int ∷ name ∷ Mark s.Close ∷ Mark s.BraceOpen ∷ Mark s.BraceClose ∷ []) ∷
+    -- void f() { return 1 ^ }
+    unexpected (Key k.Void ∷ name ∷ Mark s.Open ∷ Mark s.Close ∷ Mark s.BraceOpen ∷ Key k.Return ∷ number ∷ []) (Mark s.BraceClose ∷ []) ∷
+    -- void f() { if ^a ; }
+    unexpected (Key k.Void ∷ name ∷ Mark s.Open ∷ Mark s.Close ∷ Mark s.BraceOpen ∷ Key k.If ∷ []) (name ∷ Mark s.Semicolon ∷ Mark s.BraceClose ∷ []) ∷
+    -- void f() { if (a ^; }
+    unexpected (Key k.Void ∷ name ∷ Mark s.Open ∷ Mark s.Close ∷ Mark s.BraceOpen ∷ Key k.If ∷ Mark s.Open ∷ name ∷ []) (Mark s.Semicolon ∷ Mark s.BraceClose ∷ []) ∷
+    -- void f() { while (1) ^ }
+    unexpected (Key k.Void ∷ name ∷ Mark s.Open ∷ Mark s.Close ∷ Mark s.BraceOpen ∷ Key k.While ∷ Mark s.Open ∷ number ∷ Mark s.Close ∷ []) (Mark s.BraceClose ∷ []) ∷
+    -- void f() { do ; ^ }
+    unexpected (Key k.Void ∷ name ∷ Mark s.Open ∷ Mark s.Close ∷ Mark s.BraceOpen ∷ Key k.Do ∷ Mark s.Semicolon ∷ []) (Mark s.BraceClose ∷ []) ∷
+    -- void f() { do ; while (1) ^ }
+    unexpected (Key k.Void ∷ name ∷ Mark s.Open ∷ Mark s.Close ∷ Mark s.BraceOpen ∷ Key k.Do ∷ Mark s.Semicolon ∷ Key k.While ∷ Mark s.Open ∷ number ∷ Mark s.Close ∷ []) (Mark s.BraceClose ∷ []) ∷
+    -- void f() { for (^int i = 0; 1; ) ; }
+    unexpected (Key k.Void ∷ name ∷ Mark s.Open ∷ Mark s.Close ∷ Mark s.BraceOpen ∷ Key k.For ∷ Mark s.Open ∷ []) (Key k.Int ∷ name ∷ Mark s.Assign ∷ number ∷ Mark s.Semicolon ∷ number ∷ Mark s.Semicolon ∷ Mark s.Close ∷ Mark s.Semicolon ∷ Mark s.BraceClose ∷ []) ∷
+    -- void f() { for (i = 0; ^; ) ; }
+    unexpected (Key k.Void ∷ name ∷ Mark s.Open ∷ Mark s.Close ∷ Mark s.BraceOpen ∷ Key k.For ∷ Mark s.Open ∷ name ∷ Mark s.Assign ∷ number ∷ Mark s.Semicolon ∷ []) (Mark s.Semicolon ∷ Mark s.Close ∷ Mark s.Semicolon ∷ Mark s.BraceClose ∷ []) ∷
+    -- void f() { x = ^; }
+    unexpected (Key k.Void ∷ name ∷ Mark s.Open ∷ Mark s.Close ∷ Mark s.BraceOpen ∷ name ∷ Mark s.Assign ∷ []) (Mark s.Semicolon ∷ Mark s.BraceClose ∷ []) ∷
+    -- void f() { x ^y; }
+    unexpected (Key k.Void ∷ name ∷ Mark s.Open ∷ Mark s.Close ∷ Mark s.BraceOpen ∷ name ∷ []) (name ∷ Mark s.Semicolon ∷ Mark s.BraceClose ∷ []) ∷
+    -- void f() { f(a ^b); }
+    unexpected (Key k.Void ∷ name ∷ Mark s.Open ∷ Mark s.Close ∷ Mark s.BraceOpen ∷ name ∷ Mark s.Open ∷ name ∷ []) (name ∷ Mark s.Close ∷ Mark s.Semicolon ∷ Mark s.BraceClose ∷ []) ∷
+    -- void f() { f(a,^); }
+    unexpected (Key k.Void ∷ name ∷ Mark s.Open ∷ Mark s.Close ∷ Mark s.BraceOpen ∷ name ∷ Mark s.Open ∷ name ∷ Mark s.Comma ∷ []) (Mark s.Close ∷ Mark s.Semicolon ∷ Mark s.BraceClose ∷ []) ∷
+    -- void f() { vcc_spawn(^); }
+    unexpected (Key k.Void ∷ name ∷ Mark s.Open ∷ Mark s.Close ∷ Mark s.BraceOpen ∷ Key k.VccSpawn ∷ Mark s.Open ∷ []) (Mark s.Close ∷ Mark s.Semicolon ∷ Mark s.BraceClose ∷ []) ∷
+    -- void f() { free ^p; }
+    unexpected (Key k.Void ∷ name ∷ Mark s.Open ∷ Mark s.Close ∷ Mark s.BraceOpen ∷ Key k.Free ∷ []) (name ∷ Mark s.Semicolon ∷ Mark s.BraceClose ∷ []) ∷
+    -- void f() { p = malloc(^4); }
+    unexpected (Key k.Void ∷ name ∷ Mark s.Open ∷ Mark s.Close ∷ Mark s.BraceOpen ∷ name ∷ Mark s.Assign ∷ Key k.Malloc ∷ Mark s.Open ∷ []) (number ∷ Mark s.Close ∷ Mark s.Semicolon ∷ Mark s.BraceClose ∷ []) ∷
+    -- void f() { p = malloc(sizeof(struct ^4)); }
+    unexpected (Key k.Void ∷ name ∷ Mark s.Open ∷ Mark s.Close ∷ Mark s.BraceOpen ∷ name ∷ Mark s.Assign ∷ Key k.Malloc ∷ Mark s.Open ∷ Key k.Sizeof ∷ Mark s.Open ∷ Key k.Struct ∷ []) (number ∷ Mark s.Close ∷ Mark s.Close ∷ Mark s.Semicolon ∷ Mark s.BraceClose ∷ []) ∷
+    -- void f() { p = (struct S *) ^q; }
+    unexpected (Key k.Void ∷ name ∷ Mark s.Open ∷ Mark s.Close ∷ Mark s.BraceOpen ∷ name ∷ Mark s.Assign ∷ Mark s.Open ∷ Key k.Struct ∷ name ∷ Mark s.Star ∷ Mark s.Close ∷ []) (name ∷ Mark s.Semicolon ∷ Mark s.BraceClose ∷ []) ∷
+    -- void f() { x = InterlockedExchange(^p->f, 1); }
+    unexpected (Key k.Void ∷ name ∷ Mark s.Open ∷ Mark s.Close ∷ Mark s.BraceOpen ∷ name ∷ Mark s.Assign ∷ Key k.Exchange ∷ Mark s.Open ∷ []) (name ∷ Mark s.Arrow ∷ name ∷ Mark s.Comma ∷ number ∷ Mark s.Close ∷ Mark s.Semicolon ∷ Mark s.BraceClose ∷ []) ∷
+    -- void f() { x = InterlockedExchange(&p^, 1); }
+    unexpected (Key k.Void ∷ name ∷ Mark s.Open ∷ Mark s.Close ∷ Mark s.BraceOpen ∷ name ∷ Mark s.Assign ∷ Key k.Exchange ∷ Mark s.Open ∷ Mark s.Ampersand ∷ name ∷ []) (Mark s.Comma ∷ number ∷ Mark s.Close ∷ Mark s.Semicolon ∷ Mark s.BraceClose ∷ []) ∷
+    -- void f() { ^InterlockedIncrement(&p->n); }
+    unexpected (Key k.Void ∷ name ∷ Mark s.Open ∷ Mark s.Close ∷ Mark s.BraceOpen ∷ []) (Key k.Increment ∷ Mark s.Open ∷ Mark s.Ampersand ∷ name ∷ Mark s.Arrow ∷ name ∷ Mark s.Close ∷ Mark s.Semicolon ∷ Mark s.BraceClose ∷ []) ∷
+    -- void f() { _(unwrapping p) ^; }
+    unexpected (Key k.Void ∷ name ∷ Mark s.Open ∷ Mark s.Close ∷ Mark s.BraceOpen ∷ Mark s.Annotation ∷ Key k.Unwrapping ∷ name ∷ Mark s.Close ∷ []) (Mark s.Semicolon ∷ Mark s.BraceClose ∷ []) ∷
+    -- void f() { _(atomic ^) { } }
+    unexpected (Key k.Void ∷ name ∷ Mark s.Open ∷ Mark s.Close ∷ Mark s.BraceOpen ∷ Mark s.Annotation ∷ Key k.Atomic ∷ []) (Mark s.Close ∷ Mark s.BraceOpen ∷ Mark s.BraceClose ∷ Mark s.BraceClose ∷ []) ∷
+    -- void f() { _(ghost ^) }
+    unexpected (Key k.Void ∷ name ∷ Mark s.Open ∷ Mark s.Close ∷ Mark s.BraceOpen ∷ Mark s.Annotation ∷ Key k.Ghost ∷ []) (Mark s.Close ∷ Mark s.BraceClose ∷ []) ∷
+    -- void f() { _(ghost p->\owns ^; ) }
+    unexpected (Key k.Void ∷ name ∷ Mark s.Open ∷ Mark s.Close ∷ Mark s.BraceOpen ∷ Mark s.Annotation ∷ Key k.Ghost ∷ name ∷ Mark s.Arrow ∷ Spec w.Owns ∷ []) (Mark s.Semicolon ∷ Mark s.Close ∷ Mark s.BraceClose ∷ []) ∷
+    -- void f() { _(ghost \destroy_claim(c, ^p)) }
+    unexpected (Key k.Void ∷ name ∷ Mark s.Open ∷ Mark s.Close ∷ Mark s.BraceOpen ∷ Mark s.Annotation ∷ Key k.Ghost ∷ Spec w.DestroyClaim ∷ Mark s.Open ∷ name ∷ Mark s.Comma ∷ []) (name ∷ Mark s.Close ∷ Mark s.Close ∷ Mark s.BraceClose ∷ []) ∷
+    -- void f() { _(ghost c = \make_claim(^p, 1)) }
+    unexpected (Key k.Void ∷ name ∷ Mark s.Open ∷ Mark s.Close ∷ Mark s.BraceOpen ∷ Mark s.Annotation ∷ Key k.Ghost ∷ name ∷ Mark s.Assign ∷ Spec w.MakeClaim ∷ Mark s.Open ∷ []) (name ∷ Mark s.Comma ∷ number ∷ Mark s.Close ∷ Mark s.Close ∷ Mark s.BraceClose ∷ []) ∷
+    -- void f() { _(ghost c = \make_claim({ p }^)) }
+    unexpected (Key k.Void ∷ name ∷ Mark s.Open ∷ Mark s.Close ∷ Mark s.BraceOpen ∷ Mark s.Annotation ∷ Key k.Ghost ∷ name ∷ Mark s.Assign ∷ Spec w.MakeClaim ∷ Mark s.Open ∷ Mark s.BraceOpen ∷ name ∷ Mark s.BraceClose ∷ []) (Mark s.Close ∷ Mark s.Close ∷ Mark s.BraceClose ∷ []) ∷
+    -- void f() { ^else ; }
+    unexpected (Key k.Void ∷ name ∷ Mark s.Open ∷ Mark s.Close ∷ Mark s.BraceOpen ∷ []) (Key k.Else ∷ Mark s.Semicolon ∷ Mark s.BraceClose ∷ []) ∷
+    -- void f() { if (a) ; else ^ }
+    unexpected (Key k.Void ∷ name ∷ Mark s.Open ∷ Mark s.Close ∷ Mark s.BraceOpen ∷ Key k.If ∷ Mark s.Open ∷ name ∷ Mark s.Close ∷ Mark s.Semicolon ∷ Key k.Else ∷ []) (Mark s.BraceClose ∷ []) ∷
+    -- void f() { x = f(a)^->b; }
+    unexpected (Key k.Void ∷ name ∷ Mark s.Open ∷ Mark s.Close ∷ Mark s.BraceOpen ∷ name ∷ Mark s.Assign ∷ name ∷ Mark s.Open ∷ name ∷ Mark s.Close ∷ []) (Mark s.Arrow ∷ name ∷ Mark s.Semicolon ∷ Mark s.BraceClose ∷ []) ∷
+    -- void f() { x = (f)^(a); }
+    unexpected (Key k.Void ∷ name ∷ Mark s.Open ∷ Mark s.Close ∷ Mark s.BraceOpen ∷ name ∷ Mark s.Assign ∷ Mark s.Open ∷ name ∷ Mark s.Close ∷ []) (Mark s.Open ∷ name ∷ Mark s.Close ∷ Mark s.Semicolon ∷ Mark s.BraceClose ∷ []) ∷
+    -- void f() { x = 1 + f^(a); }
+    unexpected (Key k.Void ∷ name ∷ Mark s.Open ∷ Mark s.Close ∷ Mark s.BraceOpen ∷ name ∷ Mark s.Assign ∷ number ∷ Mark s.Plus ∷ name ∷ []) (Mark s.Open ∷ name ∷ Mark s.Close ∷ Mark s.Semicolon ∷ Mark s.BraceClose ∷ []) ∷
+    -- void f() { if (f^(a)) ; }
+    unexpected (Key k.Void ∷ name ∷ Mark s.Open ∷ Mark s.Close ∷ Mark s.BraceOpen ∷ Key k.If ∷ Mark s.Open ∷ name ∷ []) (Mark s.Open ∷ name ∷ Mark s.Close ∷ Mark s.Close ∷ Mark s.Semicolon ∷ Mark s.BraceClose ∷ []) ∷
+    -- void f() { (a) ^= 1; }
+    unexpected (Key k.Void ∷ name ∷ Mark s.Open ∷ Mark s.Close ∷ Mark s.BraceOpen ∷ Mark s.Open ∷ name ∷ Mark s.Close ∷ []) (Mark s.Assign ∷ number ∷ Mark s.Semicolon ∷ Mark s.BraceClose ∷ []) ∷
+    -- void f() { a->b^; }
+    unexpected (Key k.Void ∷ name ∷ Mark s.Open ∷ Mark s.Close ∷ Mark s.BraceOpen ∷ name ∷ Mark s.Arrow ∷ name ∷ []) (Mark s.Semicolon ∷ Mark s.BraceClose ∷ []) ∷
+    -- void f() { f(a) ^+ 1; }
+    unexpected (Key k.Void ∷ name ∷ Mark s.Open ∷ Mark s.Close ∷ Mark s.BraceOpen ∷ name ∷ Mark s.Open ∷ name ∷ Mark s.Close ∷ []) (Mark s.Plus ∷ number ∷ Mark s.Semicolon ∷ Mark s.BraceClose ∷ []) ∷
+    -- void f() { x = y ^= z; }
+    unexpected (Key k.Void ∷ name ∷ Mark s.Open ∷ Mark s.Close ∷ Mark s.BraceOpen ∷ name ∷ Mark s.Assign ∷ name ∷ []) (Mark s.Assign ∷ name ∷ Mark s.Semicolon ∷ Mark s.BraceClose ∷ []) ∷
+    -- void f() { x++ ^+ 1; }
+    unexpected (Key k.Void ∷ name ∷ Mark s.Open ∷ Mark s.Close ∷ Mark s.BraceOpen ∷ name ∷ Mark s.Increment ∷ []) (Mark s.Plus ∷ number ∷ Mark s.Semicolon ∷ Mark s.BraceClose ∷ []) ∷
+    -- void f() { a^[1] = 2; }
+    unexpected (Key k.Void ∷ name ∷ Mark s.Open ∷ Mark s.Close ∷ Mark s.BraceOpen ∷ name ∷ []) (name ∷ number ∷ name ∷ Mark s.Assign ∷ number ∷ Mark s.Semicolon ∷ Mark s.BraceClose ∷ []) ∷
+    -- void f() { x = a ^. b; }
+    unexpected (Key k.Void ∷ name ∷ Mark s.Open ∷ Mark s.Close ∷ Mark s.BraceOpen ∷ name ∷ Mark s.Assign ∷ name ∷ []) (Mark s.Dot ∷ name ∷ Mark s.Semicolon ∷ Mark s.BraceClose ∷ []) ∷
+    -- void f() { x = a ^& b; }
+    unexpected (Key k.Void ∷ name ∷ Mark s.Open ∷ Mark s.Close ∷ Mark s.BraceOpen ∷ name ∷ Mark s.Assign ∷ name ∷ []) (Mark s.Ampersand ∷ name ∷ Mark s.Semicolon ∷ Mark s.BraceClose ∷ []) ∷
+    -- void f() { x = ^&a; }
+    unexpected (Key k.Void ∷ name ∷ Mark s.Open ∷ Mark s.Close ∷ Mark s.BraceOpen ∷ name ∷ Mark s.Assign ∷ []) (Mark s.Ampersand ∷ name ∷ Mark s.Semicolon ∷ Mark s.BraceClose ∷ []) ∷
+    -- void f() { x = ^*a; }
+    unexpected (Key k.Void ∷ name ∷ Mark s.Open ∷ Mark s.Close ∷ Mark s.BraceOpen ∷ name ∷ Mark s.Assign ∷ []) (Mark s.Star ∷ name ∷ Mark s.Semicolon ∷ Mark s.BraceClose ∷ []) ∷
+    -- void f() { x = p->^(a); }
+    unexpected (Key k.Void ∷ name ∷ Mark s.Open ∷ Mark s.Close ∷ Mark s.BraceOpen ∷ name ∷ Mark s.Assign ∷ name ∷ Mark s.Arrow ∷ []) (Mark s.Open ∷ name ∷ Mark s.Close ∷ Mark s.Semicolon ∷ Mark s.BraceClose ∷ []) ∷
+    -- void f() { x = p->^\closed; }
+    unexpected (Key k.Void ∷ name ∷ Mark s.Open ∷ Mark s.Close ∷ Mark s.BraceOpen ∷ name ∷ Mark s.Assign ∷ name ∷ Mark s.Arrow ∷ []) (Spec w.Closed ∷ Mark s.Semicolon ∷ Mark s.BraceClose ∷ []) ∷
+    -- void f() { x = a ^==> b; }
+    unexpected (Key k.Void ∷ name ∷ Mark s.Open ∷ Mark s.Close ∷ Mark s.BraceOpen ∷ name ∷ Mark s.Assign ∷ name ∷ []) (Mark s.Implies ∷ name ∷ Mark s.Semicolon ∷ Mark s.BraceClose ∷ []) ∷
+    -- void f() { struct S ^x; }
+    unexpected (Key k.Void ∷ name ∷ Mark s.Open ∷ Mark s.Close ∷ Mark s.BraceOpen ∷ Key k.Struct ∷ name ∷ []) (name ∷ Mark s.Semicolon ∷ Mark s.BraceClose ∷ []) ∷
+    -- void f() { long ^x; }
+    unexpected (Key k.Void ∷ name ∷ Mark s.Open ∷ Mark s.Close ∷ Mark s.BraceOpen ∷ Key k.Long ∷ []) (name ∷ Mark s.Semicolon ∷ Mark s.BraceClose ∷ []) ∷
+    -- void f() { _(assert 1 ^}) }
+    unexpected (Key k.Void ∷ name ∷ Mark s.Open ∷ Mark s.Close ∷ Mark s.BraceOpen ∷ Mark s.Annotation ∷ Key k.Assert ∷ number ∷ []) (Mark s.BraceClose ∷ Mark s.Close ∷ Mark s.BraceClose ∷ []) ∷
+    -- void f() { _(assert ^) }
+    unexpected (Key k.Void ∷ name ∷ Mark s.Open ∷ Mark s.Close ∷ Mark s.BraceOpen ∷ Mark s.Annotation ∷ Key k.Assert ∷ []) (Mark s.Close ∷ Mark s.BraceClose ∷ []) ∷
+    -- void f() { _(assert p->^\owns) }
+    unexpected (Key k.Void ∷ name ∷ Mark s.Open ∷ Mark s.Close ∷ Mark s.BraceOpen ∷ Mark s.Annotation ∷ Key k.Assert ∷ name ∷ Mark s.Arrow ∷ []) (Spec w.Owns ∷ Mark s.Close ∷ Mark s.BraceClose ∷ []) ∷
+    -- void f() { _(assert p \in q^) }
+    unexpected (Key k.Void ∷ name ∷ Mark s.Open ∷ Mark s.Close ∷ Mark s.BraceOpen ∷ Mark s.Annotation ∷ Key k.Assert ∷ name ∷ Spec w.In ∷ name ∷ []) (Mark s.Close ∷ Mark s.BraceClose ∷ []) ∷
+    -- void f() { _(assert p \in q->x^) }
+    unexpected (Key k.Void ∷ name ∷ Mark s.Open ∷ Mark s.Close ∷ Mark s.BraceOpen ∷ Mark s.Annotation ∷ Key k.Assert ∷ name ∷ Spec w.In ∷ name ∷ Mark s.Arrow ∷ name ∷ []) (Mark s.Close ∷ Mark s.BraceClose ∷ []) ∷
+    -- void f() { _(assert \forall int i^) }
+    unexpected (Key k.Void ∷ name ∷ Mark s.Open ∷ Mark s.Close ∷ Mark s.BraceOpen ∷ Mark s.Annotation ∷ Key k.Assert ∷ Spec w.Forall ∷ Key k.Int ∷ name ∷ []) (Mark s.Close ∷ Mark s.BraceClose ∷ []) ∷
+    -- void f() { _(assert \forall ^i; 1) }
+    unexpected (Key k.Void ∷ name ∷ Mark s.Open ∷ Mark s.Close ∷ Mark s.BraceOpen ∷ Mark s.Annotation ∷ Key k.Assert ∷ Spec w.Forall ∷ []) (name ∷ Mark s.Semicolon ∷ number ∷ Mark s.Close ∷ Mark s.BraceClose ∷ []) ∷
+    -- void f() { _(assert \old^1) }
+    unexpected (Key k.Void ∷ name ∷ Mark s.Open ∷ Mark s.Close ∷ Mark s.BraceOpen ∷ Mark s.Annotation ∷ Key k.Assert ∷ Spec w.Old ∷ []) (number ∷ Mark s.Close ∷ Mark s.BraceClose ∷ []) ∷
+    -- void f() { _(assert \old(^)) }
+    unexpected (Key k.Void ∷ name ∷ Mark s.Open ∷ Mark s.Close ∷ Mark s.BraceOpen ∷ Mark s.Annotation ∷ Key k.Assert ∷ Spec w.Old ∷ Mark s.Open ∷ []) (Mark s.Close ∷ Mark s.Close ∷ Mark s.BraceClose ∷ []) ∷
+    -- void f() { _(assert \mine(^)) }
+    unexpected (Key k.Void ∷ name ∷ Mark s.Open ∷ Mark s.Close ∷ Mark s.BraceOpen ∷ Mark s.Annotation ∷ Key k.Assert ∷ Spec w.Mine ∷ Mark s.Open ∷ []) (Mark s.Close ∷ Mark s.Close ∷ Mark s.BraceClose ∷ []) ∷
+    -- void f() { _(assert \claims_object(c^)) }
+    unexpected (Key k.Void ∷ name ∷ Mark s.Open ∷ Mark s.Close ∷ Mark s.BraceOpen ∷ Mark s.Annotation ∷ Key k.Assert ∷ Spec w.ClaimsObject ∷ Mark s.Open ∷ name ∷ []) (Mark s.Close ∷ Mark s.Close ∷ Mark s.BraceClose ∷ []) ∷
+    -- void f() { _(assert \claims(c, 1^, 2)) }
+    unexpected (Key k.Void ∷ name ∷ Mark s.Open ∷ Mark s.Close ∷ Mark s.BraceOpen ∷ Mark s.Annotation ∷ Key k.Assert ∷ Spec w.Claims ∷ Mark s.Open ∷ name ∷ Mark s.Comma ∷ number ∷ []) (Mark s.Comma ∷ number ∷ Mark s.Close ∷ Mark s.Close ∷ Mark s.BraceClose ∷ []) ∷
+    -- void f() { _(assert a ^\this) }
+    unexpected (Key k.Void ∷ name ∷ Mark s.Open ∷ Mark s.Close ∷ Mark s.BraceOpen ∷ Mark s.Annotation ∷ Key k.Assert ∷ name ∷ []) (Spec w.This ∷ Mark s.Close ∷ Mark s.BraceClose ∷ []) ∷
+    -- void f() { _(assert a ? b^) }
+    unexpected (Key k.Void ∷ name ∷ Mark s.Open ∷ Mark s.Close ∷ Mark s.BraceOpen ∷ Mark s.Annotation ∷ Key k.Assert ∷ name ∷ Mark s.Question ∷ name ∷ []) (Mark s.Close ∷ Mark s.BraceClose ∷ []) ∷
+    -- void f() _(ensures ^) { }
+    unexpected (Key k.Void ∷ name ∷ Mark s.Open ∷ Mark s.Close ∷ Mark s.Annotation ∷ Key k.Ensures ∷ []) (Mark s.Close ∷ Mark s.BraceOpen ∷ Mark s.BraceClose ∷ []) ∷
+    -- void f() _(writes p,^) { }
+    unexpected (Key k.Void ∷ name ∷ Mark s.Open ∷ Mark s.Close ∷ Mark s.Annotation ∷ Key k.Writes ∷ name ∷ Mark s.Comma ∷ []) (Mark s.Close ∷ Mark s.BraceOpen ∷ Mark s.BraceClose ∷ []) ∷
+    -- void f() _(maintains 1) ^;
+    unexpected (Key k.Void ∷ name ∷ Mark s.Open ∷ Mark s.Close ∷ Mark s.Annotation ∷ Key k.Maintains ∷ number ∷ Mark s.Close ∷ []) (Mark s.Semicolon ∷ []) ∷
+    -- void f(int ^) { }
+    unexpected (Key k.Void ∷ name ∷ Mark s.Open ∷ Key k.Int ∷ []) (Mark s.Close ∷ Mark s.BraceOpen ∷ Mark s.BraceClose ∷ []) ∷
+    -- void f(int a,^) { }
+    unexpected (Key k.Void ∷ name ∷ Mark s.Open ∷ Key k.Int ∷ name ∷ Mark s.Comma ∷ []) (Mark s.Close ∷ Mark s.BraceOpen ∷ Mark s.BraceClose ∷ []) ∷
+    -- void f(^a) { }
+    unexpected (Key k.Void ∷ name ∷ Mark s.Open ∷ []) (name ∷ Mark s.Close ∷ Mark s.BraceOpen ∷ Mark s.BraceClose ∷ []) ∷
+    -- struct ^{ };
+    unexpected (Key k.Struct ∷ []) (Mark s.BraceOpen ∷ Mark s.BraceClose ∷ Mark s.Semicolon ∷ []) ∷
+    -- struct S { int x ^};
+    unexpected (Key k.Struct ∷ name ∷ Mark s.BraceOpen ∷ Key k.Int ∷ name ∷ []) (Mark s.BraceClose ∷ Mark s.Semicolon ∷ []) ∷
+    -- struct S { ^x; };
+    unexpected (Key k.Struct ∷ name ∷ Mark s.BraceOpen ∷ []) (name ∷ Mark s.Semicolon ∷ Mark s.BraceClose ∷ Mark s.Semicolon ∷ []) ∷
+    -- struct S { _(^assert 1) };
+    unexpected (Key k.Struct ∷ name ∷ Mark s.BraceOpen ∷ Mark s.Annotation ∷ []) (Key k.Assert ∷ number ∷ Mark s.Close ∷ Mark s.BraceClose ∷ Mark s.Semicolon ∷ []) ∷
+    -- struct S { } ^
+    unexpected (Key k.Struct ∷ name ∷ Mark s.BraceOpen ∷ Mark s.BraceClose ∷ []) ([]) ∷
+    -- struct S { int x; int f^() { } };
+    unexpected (Key k.Struct ∷ name ∷ Mark s.BraceOpen ∷ Key k.Int ∷ name ∷ Mark s.Semicolon ∷ Key k.Int ∷ name ∷ []) (Mark s.Open ∷ Mark s.Close ∷ Mark s.BraceOpen ∷ Mark s.BraceClose ∷ Mark s.BraceClose ∷ Mark s.Semicolon ∷ []) ∷
+    -- _(claimable) ^void f() { }
+    unexpected (Mark s.Annotation ∷ Key k.Claimable ∷ Mark s.Close ∷ []) (Key k.Void ∷ name ∷ Mark s.Open ∷ Mark s.Close ∷ Mark s.BraceOpen ∷ Mark s.BraceClose ∷ []) ∷
+    -- _(claimable ^struct S { };
+    unexpected (Mark s.Annotation ∷ Key k.Claimable ∷ []) (Key k.Struct ∷ name ∷ Mark s.BraceOpen ∷ Mark s.BraceClose ∷ Mark s.Semicolon ∷ []) ∷
+    -- ^f() { }
+    unexpected ([]) (name ∷ Mark s.Open ∷ Mark s.Close ∷ Mark s.BraceOpen ∷ Mark s.BraceClose ∷ []) ∷
+    -- ^;
+    unexpected ([]) (Mark s.Semicolon ∷ []) ∷
+    -- int ^{ }
+    unexpected (Key k.Int ∷ []) (Mark s.BraceOpen ∷ Mark s.BraceClose ∷ []) ∷
+    -- long ^f() { }
+    unexpected (Key k.Long ∷ []) (name ∷ Mark s.Open ∷ Mark s.Close ∷ Mark s.BraceOpen ∷ Mark s.BraceClose ∷ []) ∷
+    -- unsigned long ^f() { }
+    unexpected (Key k.Unsigned ∷ Key k.Long ∷ []) (name ∷ Mark s.Open ∷ Mark s.Close ∷ Mark s.BraceOpen ∷ Mark s.BraceClose ∷ []) ∷
+    -- struct S ^f() { }
+    unexpected (Key k.Struct ∷ name ∷ []) (name ∷ Mark s.Open ∷ Mark s.Close ∷ Mark s.BraceOpen ∷ Mark s.BraceClose ∷ []) ∷
+    -- struct S *f^;
+    unexpected (Key k.Struct ∷ name ∷ Mark s.Star ∷ name ∷ []) (Mark s.Semicolon ∷ []) ∷
+    -- void f() { { } ^
+    unexpected (Key k.Void ∷ name ∷ Mark s.Open ∷ Mark s.Close ∷ Mark s.BraceOpen ∷ Mark s.BraceOpen ∷ Mark s.BraceClose ∷ []) ([]) ∷
+    -- void f() { } void ^
+    unexpected (Key k.Void ∷ name ∷ Mark s.Open ∷ Mark s.Close ∷ Mark s.BraceOpen ∷ Mark s.BraceClose ∷ Key k.Void ∷ []) ([]) ∷
+    -- ^
+    unexpected ([]) ([]) ∷
     []
 
 -- void main(int x) { x = ((..0..)); }
@@ -168,6 +440,14 @@ deep =
     too_deep (Key k.Void ∷ name ∷ Mark s.Open ∷ Key k.Int ∷ name ∷ Mark s.Close ∷ Mark s.BraceOpen ∷ name ∷ Mark s.Assign ∷ times 196 (Mark s.Open) []) (Mark s.Open ∷ number ∷ times 197 (Mark s.Close) (Mark s.Semicolon ∷ Mark s.BraceClose ∷ [])) ∷
     []
 
+-- A lock, its functions and two threads that use it: two structs and five functions.
+abbrev lock : List Word
+lock = Key k.Struct ∷ name ∷ Mark s.BraceOpen ∷ Key k.Int ∷ name ∷ Mark s.Semicolon ∷ Mark s.Annotation ∷ Key k.Invariant ∷ name ∷ Mark s.GreaterEqual ∷ number ∷ Mark s.Close ∷ Mark s.BraceClose ∷ Mark s.Semicolon ∷ Mark s.Annotation ∷ Key k.Claimable ∷ Mark s.Comma ∷ Key k.VolatileOwns ∷ Mark s.Close ∷ Key k.Struct ∷ name ∷ Mark s.BraceOpen ∷ Key k.Volatile ∷ Key k.Int ∷ name ∷ Mark s.Semicolon ∷ Mark s.Annotation ∷ Key k.Ghost ∷ Spec w.Object ∷ name ∷ Mark s.Semicolon ∷ Mark s.Close ∷ Mark s.Annotation ∷ Key k.Invariant ∷ name ∷ Mark s.Equal ∷ number ∷ Mark s.Implies ∷ Spec w.Mine ∷ Mark s.Open ∷ name ∷ Mark s.Close ∷ Mark s.Close ∷ Mark s.BraceClose ∷ Mark s.Semicolon ∷ Key k.Void ∷ name ∷ Mark s.Open ∷ Key k.Struct ∷ name ∷ Mark s.Star ∷ name ∷ Mark s.Annotation ∷ Key k.Ghost ∷ Spec w.Object ∷ name ∷ Mark s.Close ∷ Mark s.Close ∷ Mark s.Annotation ∷ Key k.Writes ∷ Spec w.Span ∷ Mark s.Open ∷ name ∷ Mark s.Close ∷ Mark s.Comma ∷ name ∷ Mark s.Close ∷ Mark s.Annotation ∷ Key k.Requires ∷ Spec w.Wrapped ∷ Mark s.Open ∷ name ∷ Mark s.Close ∷ Mark s.Close ∷ Mark s.Annotation ∷ Key k.Ensures ∷ Spec w.Wrapped ∷ Mark s.Open ∷ name ∷ Mark s.Close ∷ Mark s.And ∷ name ∷ Mark s.Arrow ∷ name ∷ Mark s.Equal ∷ name ∷ Mark s.Close ∷ Mark s.BraceOpen ∷ name ∷ Mark s.Arrow ∷ name ∷ Mark s.Assign ∷ number ∷ Mark s.Semicolon ∷ Mark s.Annotation ∷ Key k.Ghost ∷ name ∷ Mark s.Arrow ∷ name ∷ Mark s.Assign ∷ name ∷ Mark s.Semicolon ∷ Mark s.Close ∷ Mark s.Annotation ∷ Key k.Ghost ∷ name ∷ Mark s.Arrow ∷ Spec w.Owns ∷ Mark s.Assign ∷ Mark s.BraceOpen ∷ name ∷ Mark s.BraceClose ∷ Mark s.Semicolon ∷ Mark s.Close ∷ Mark s.Annotation ∷ Key k.Wrap ∷ name ∷ Mark s.Close ∷ Mark s.BraceClose ∷ Key k.Void ∷ name ∷ Mark s.Open ∷ Key k.Struct ∷ name ∷ Mark s.Star ∷ name ∷ Mark s.Annotation ∷ Key k.Ghost ∷ Spec w.Claim ∷ name ∷ Mark s.Close ∷ Mark s.Close ∷ Mark s.Annotation ∷ Key k.Maintains ∷ Spec w.Wrapped ∷ Mark s.Open ∷ name ∷ Mark s.Close ∷ Mark s.And ∷ Spec w.ClaimsObject ∷ Mark s.Open ∷ name ∷ Mark s.Comma ∷ name ∷ Mark s.Close ∷ Mark s.Close ∷ Mark s.Annotation ∷ Key k.Ensures ∷ Spec w.Wrapped ∷ Mark s.Open ∷ name ∷ Mark s.Arrow ∷ name ∷ Mark s.Close ∷ Mark s.And ∷ Spec w.Fresh ∷ Mark s.Open ∷ name ∷ Mark s.Arrow ∷ name ∷ Mark s.Close ∷ Mark s.Close ∷ Mark s.BraceOpen ∷ Key k.Int ∷ name ∷ Mark s.Assign ∷ number ∷ Mark s.Semicolon ∷ Key k.Do ∷ Mark s.BraceOpen ∷ Mark s.Annotation ∷ Key k.Atomic ∷ name ∷ Mark s.Comma ∷ name ∷ Mark s.Close ∷ Mark s.BraceOpen ∷ name ∷ Mark s.Assign ∷ Key k.CompareExchange ∷ Mark s.Open ∷ Mark s.Ampersand ∷ name ∷ Mark s.Arrow ∷ name ∷ Mark s.Comma ∷ number ∷ Mark s.Comma ∷ number ∷ Mark s.Close ∷ Mark s.Equal ∷ number ∷ Mark s.Semicolon ∷ Mark s.Annotation ∷ Key k.Ghost ∷ Key k.If ∷ Mark s.Open ∷ name ∷ Mark s.Close ∷ name ∷ Mark s.Arrow ∷ Spec w.Owns ∷ Mark s.SubtractAssign ∷ name ∷ Mark s.Arrow ∷ name ∷ Mark s.Semicolon ∷ Mark s.Close ∷ Mark s.BraceClose ∷ Mark s.BraceClose ∷ Key k.While ∷ Mark s.Open ∷ Mark s.Not ∷ name ∷ Mark s.Close ∷ Mark s.Semicolon ∷ Mark s.BraceClose ∷ Key k.Void ∷ name ∷ Mark s.Open ∷ Key k.Struct ∷ name ∷ Mark s.Star ∷ name ∷ Mark s.Annotation ∷ Key k.Ghost ∷ Spec w.Claim ∷ name ∷ Mark s.Close ∷ Mark s.Close ∷ Mark s.Annotation ∷ Key k.Requires ∷ name ∷ Mark s.Arrow ∷ name ∷ Mark s.NotEqual ∷ name ∷ Mark s.Close ∷ Mark s.Annotation ∷ Key k.Maintains ∷ Spec w.Wrapped ∷ Mark s.Open ∷ name ∷ Mark s.Close ∷ Mark s.And ∷ Spec w.ClaimsObject ∷ Mark s.Open ∷ name ∷ Mark s.Comma ∷ name ∷ Mark s.Close ∷ Mark s.Close ∷ Mark s.Annotation ∷ Key k.Requires ∷ Spec w.Wrapped ∷ Mark s.Open ∷ name ∷ Mark s.Arrow ∷ name ∷ Mark s.Close ∷ Mark s.Close ∷ Mark s.Annotation ∷ Key k.Writes ∷ name ∷ Mark s.Arrow ∷ name ∷ Mark s.Close ∷ Mark s.BraceOpen ∷ Mark s.Annotation ∷ Key k.Atomic ∷ name ∷ Mark s.Comma ∷ name ∷ Mark s.Close ∷ Mark s.BraceOpen ∷ name ∷ Mark s.Arrow ∷ name ∷ Mark s.Assign ∷ number ∷ Mark s.Semicolon ∷ Mark s.Annotation ∷ Key k.Ghost ∷ name ∷ Mark s.Arrow ∷ Spec w.Owns ∷ Mark s.AddAssign ∷ name ∷ Mark s.Arrow ∷ name ∷ Mark s.Semicolon ∷ Mark s.Close ∷ Mark s.BraceClose ∷ Mark s.BraceClose ∷ Key k.Void ∷ name ∷ Mark s.Open ∷ Key k.Struct ∷ name ∷ Mark s.Star ∷ name ∷ Mark s.Comma ∷ Key k.Struct ∷ name ∷ Mark s.Star ∷ name ∷ Mark s.Annotation ∷ Key k.Ghost ∷ Spec w.Claim ∷ name ∷ Mark s.Close ∷ Mark s.Close ∷ Mark s.Annotation ∷ Key k.Requires ∷ Spec w.Wrapped ∷ Mark s.Open ∷ name ∷ Mark s.Close ∷ Mark s.And ∷ Spec w.ClaimsObject ∷ Mark s.Open ∷ name ∷ Mark s.Comma ∷ name ∷ Mark s.Close ∷ Mark s.And ∷ name ∷ Mark s.Arrow ∷ name ∷ Mark s.Equal ∷ name ∷ Mark s.Close ∷ Mark s.Annotation ∷ Key k.Writes ∷ name ∷ Mark s.Close ∷ Mark s.BraceOpen ∷ name ∷ Mark s.Open ∷ name ∷ Mark s.Annotation ∷ Key k.Ghost ∷ name ∷ Mark s.Close ∷ Mark s.Close ∷ Mark s.Semicolon ∷ Mark s.Annotation ∷ Key k.Unwrap ∷ name ∷ Mark s.Close ∷ name ∷ Mark s.Arrow ∷ name ∷ Mark s.Assign ∷ number ∷ Mark s.Semicolon ∷ Mark s.Annotation ∷ Key k.Wrap ∷ name ∷ Mark s.Close ∷ name ∷ Mark s.Open ∷ name ∷ Mark s.Annotation ∷ Key k.Ghost ∷ name ∷ Mark s.Close ∷ Mark s.Close ∷ Mark s.Semicolon ∷ Mark s.BraceClose ∷ Key k.Void ∷ name ∷ Mark s.Open ∷ Mark s.Close ∷ Mark s.BraceOpen ∷ Key k.Struct ∷ name ∷ Mark s.Star ∷ name ∷ Mark s.Assign ∷ Key k.Malloc ∷ Mark s.Open ∷ Key k.Sizeof ∷ Mark s.Open ∷ Key k.Struct ∷ name ∷ Mark s.Close ∷ Mark s.Close ∷ Mark s.Semicolon ∷ Key k.Struct ∷ name ∷ Mark s.Star ∷ name ∷ Mark s.Assign ∷ Key k.Malloc ∷ Mark s.Open ∷ Key k.Sizeof ∷ Mark s.Open ∷ Key k.Struct ∷ name ∷ Mark s.Close ∷ Mark s.Close ∷ Mark s.Semicolon ∷ Key k.If ∷ Mark s.Open ∷ name ∷ Mark s.NotEqual ∷ Key k.Null ∷ Mark s.And ∷ name ∷ Mark s.NotEqual ∷ Key k.Null ∷ Mark s.Close ∷ Mark s.BraceOpen ∷ name ∷ Mark s.Arrow ∷ name ∷ Mark s.Assign ∷ number ∷ Mark s.Semicolon ∷ Mark s.Annotation ∷ Key k.Wrap ∷ name ∷ Mark s.Close ∷ name ∷ Mark s.Open ∷ name ∷ Mark s.Annotation ∷ Key k.Ghost ∷ name ∷ Mark s.Close ∷ Mark s.Close ∷ Mark s.Semicolon ∷ Mark s.Annotation ∷ Key k.Ghost ∷ Spec w.Claim ∷ name ∷ Mark s.Assign ∷ Spec w.MakeClaim ∷ Mark s.Open ∷ Mark s.BraceOpen ∷ name ∷ Mark s.BraceClose ∷ Mark s.Comma ∷ Spec w.True ∷ Mark s.Close ∷ Mark s.Semicolon ∷ Mark s.Close ∷ Mark s.Annotation ∷ Key k.Ghost ∷ Spec w.Claim ∷ name ∷ Mark s.Assign ∷ Spec w.MakeClaim ∷ Mark s.Open ∷ Mark s.BraceOpen ∷ name ∷ Mark s.BraceClose ∷ Mark s.Comma ∷ Spec w.True ∷ Mark s.Close ∷ Mark s.Semicolon ∷ Mark s.Close ∷ Key k.VccSpawn ∷ Mark s.Open ∷ name ∷ Mark s.Comma ∷ name ∷ Mark s.Comma ∷ name ∷ Mark s.Annotation ∷ Key k.Ghost ∷ name ∷ Mark s.Close ∷ Mark s.Close ∷ Mark s.Semicolon ∷ Key k.VccSpawn ∷ Mark s.Open ∷ name ∷ Mark s.Comma ∷ name ∷ Mark s.Comma ∷ name ∷ Mark s.Annotation ∷ Key k.Ghost ∷ name ∷ Mark s.Close ∷ Mark s.Close ∷ Mark s.Semicolon ∷ Mark s.BraceClose ∷ Mark s.BraceClose ∷ []
+
+abbrev has_items : ℕ → Out language (List Item) → Bool
+has_items n (Ok p) = length p.0 == n
+has_items n (Err e) = false
+
 items_hold : all_hold items ≡ true
 unfolding reads read links climbs read_rule first first_rule low low_rule is_empty
 items_hold = refl
@@ -175,6 +455,10 @@ items_hold = refl
 faults_hold : all_hold faults ≡ true
 unfolding reads read links climbs read_rule first first_rule low low_rule is_empty
 faults_hold = refl
+
+lock_holds : has_items 7 (read_items (placed 1 lock)) ≡ true
+unfolding reads read links climbs read_rule first first_rule low low_rule is_empty
+lock_holds = refl
 
 deep_hold : all_hold deep ≡ true
 unfolding reads read links climbs read_rule first first_rule low low_rule is_empty

@@ -28,6 +28,33 @@ s conn 2 16 = -16 +15\ns conn 2 15 = -15 +14\ns conn 2 14 = -14 +13\ns conn 1 13
 s conn 2 13 = -13 +12\ns trans 10 12 19 = -10 -12 +19\n\
 s chain 0 1 2 3 4 5 6 7 8 9 10 =\nend\n";
 
+/// Sources and certificates, with the line and the status that they get.
+const ROWS: [(&str, &str, &str, u8); 8] = [
+    (EMPTY, NO_CONDITIONS, "yes\n", 0),
+    (FIVE, FIVE_STEPS, "yes\n", 0),
+    (SAME, SAME_STEPS, "yes\n", 0),
+    (FIVE, FIVE_SHORT_CHAIN, "no: main/1 Assert line 1\n", 1),
+    (
+        "void main(int x) { x = 1; }",
+        NO_CONDITIONS,
+        "source: not built\n",
+        3,
+    ),
+    (FIVE, NO_CONDITIONS, "certificate: refused\n", 4),
+    (
+        EMPTY,
+        "vcc-cert 1\nconditions 0\nen",
+        "certificate: refused\n",
+        4,
+    ),
+    (
+        FIVE,
+        "vcc-cert 1\nconditions 1\ncondition 0 0 0\nend\n",
+        "no: main/1 Assert line 1\n",
+        1,
+    ),
+];
+
 const USAGE: &str = "usage: vcc check SOURCE CERT\n";
 
 /// What the command `words` prints, and its status, where these names hold these texts, and the store calls and the sink
@@ -59,36 +86,23 @@ fn run(
 
 #[test]
 fn rows(rt: HostRuntime) -> Result<(), Fail> {
-    let rows = [
-        (EMPTY, NO_CONDITIONS, "yes\n", 0),
-        (FIVE, FIVE_STEPS, "yes\n", 0),
-        (SAME, SAME_STEPS, "yes\n", 0),
-        (FIVE, FIVE_SHORT_CHAIN, "no: main/1 Assert line 1\n", 1),
-        (
-            "void main(int x) { x = 1; }",
-            NO_CONDITIONS,
-            "source: not built\n",
-            3,
-        ),
-        (FIVE, NO_CONDITIONS, "certificate: refused\n", 4),
-        (
-            EMPTY,
-            "vcc-cert 1\nconditions 0\nen",
-            "certificate: refused\n",
-            4,
-        ),
-        (
-            FIVE,
-            "vcc-cert 1\nconditions 1\ncondition 0 0 0\nend\n",
-            "no: main/1 Assert line 1\n",
-            1,
-        ),
-    ];
-    for (source, cert, line, status) in rows {
+    for (source, cert, line, status) in ROWS {
         let held = [("s.c", source), ("C", cert)];
         let (text, answer) = run(&rt, &["check", "s.c", "C"], &held, &[], &[])?;
         assert_eq!(rt; text.as_str(), line, "for {source}");
         assert_eq!(rt; answer, status, "for {source}");
+    }
+    Ok(())
+}
+
+/// The row's own answer, or want of memory: for runs in which an allocation fails.
+#[test]
+fn want_of_memory(rt: HostRuntime) -> Result<(), Fail> {
+    for (source, cert, line, status) in ROWS {
+        let held = [("s.c", source), ("C", cert)];
+        let (text, answer) = run(&rt, &["check", "s.c", "C"], &held, &[], &[])?;
+        let own = text.as_str() == line && answer == status;
+        assert!(rt; own || answer == 8, "for {source}: {answer}");
     }
     Ok(())
 }
