@@ -12,3 +12,4 @@ pub mod Language
 pub mod Readable
 pub mod Laws
 pub mod Rows
+pub mod Views

@@ -1,4 +1,4 @@
-//! Words and signs of trees that stand for one thing each: operators, statuses, attributes and the like. The trees themselves are so far definitions alone (`specs/`).
+//! Words and signs of trees that stand for one thing each: operators, statuses, attributes and the like.
 
 /// `\true`, `\false`, `\this`, `\me`, `\result`.
 #[derive(Clone, Copy, Debug, PartialEq, Eq)]
