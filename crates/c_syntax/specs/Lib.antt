@@ -13,3 +13,5 @@ pub mod Readable
 pub mod Laws
 pub mod Rows
 pub mod Views
+pub mod Faults
+pub mod SourceLaws

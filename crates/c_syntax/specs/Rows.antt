@@ -1,5 +1,5 @@
 -- Worked rows: texts, as tokens, with how high their item is, or with the first token that doesn't go on.
-use Rattle.std.specs.Prelude.{ℕ, zero, suc, ◌+◌, Bool, true, false, ◌&&◌, ◌==◌, List, [], ◌∷◌, ◌++◌, length, Ok, Err}
+use Rattle.std.specs.Prelude.{ℕ, zero, suc, ◌+◌, Bool, true, false, ◌&&◌, ◌==◌, List, [], ◌∷◌, ◌++◌, length, Result, Ok, Err}
 use Rattle.std.proofs.Common.{◌≡◌, refl}
 use Rattle.int_ranges.specs.declared.ctype.CType.TheVariants.{Int}
 use Rattle.ebnf.specs.Sets.{first, first_rule, low, low_rule, is_empty}
@@ -12,6 +12,8 @@ use Rattle.c_syntax.specs.Lexing.{Lexeme}
 use Rattle.c_syntax.specs.Items.{Item}
 use Rattle.c_syntax.specs.Language.{language}
 use Rattle.c_syntax.specs.Laws.{read_items}
+use Rattle.c_syntax.specs.Faults.{SyntaxFault, UnexpectedToken, UnknownForm, TooHigh, read_source}
+use Rattle.c_syntax.specs.declared.token.Span.{Span}
 
 -- words, each where the next comes, and the end
 abbrev placed : ℕ → List Word → List Lexeme
@@ -33,6 +35,20 @@ stops k left (Ok p) = false
 stops Unexpected left (Err (Unexpected, rest)) = length rest == left
 stops TooDeep left (Err (TooDeep, rest)) = length rest == left
 stops k left (Err e) = false
+
+abbrev same_fault : SyntaxFault → SyntaxFault → Bool
+same_fault UnexpectedToken UnexpectedToken = true
+same_fault UnknownForm UnknownForm = true
+same_fault TooHigh TooHigh = true
+same_fault f g = false
+
+abbrev is_fault : SyntaxFault → ℕ → Result (List Item × ℕ) (SyntaxFault × Span) → Bool
+is_fault f column (Ok p) = false
+is_fault f column (Err e) = same_fault f e.0 && (e.1.column == column)
+
+abbrev reads_none : Result (List Item × ℕ) (SyntaxFault × Span) → Bool
+reads_none (Ok p) = length p.0 == 0
+reads_none (Err e) = false
 
 -- one item, so high
 abbrev item : ℕ → List Word → Bool
@@ -447,6 +463,48 @@ lock = Key k.Struct ∷ name ∷ Mark s.BraceOpen ∷ Key k.Int ∷ name ∷ Mar
 abbrev has_items : ℕ → Out language (List Item) → Bool
 has_items n (Ok p) = length p.0 == n
 has_items n (Err e) = false
+
+-- the fault of a token behind these words, which stands in the column behind them
+abbrev says : SyntaxFault → List Word → List Word → Bool
+says f xs ys = is_fault f (suc (length xs)) (read_source (placed 1 (xs ++ ys)))
+
+abbrev forms : List Bool
+forms =
+    -- void f() { _(^assume 1) }
+    says UnknownForm (Key k.Void ∷ name ∷ Mark s.Open ∷ Mark s.Close ∷ Mark s.BraceOpen ∷ Mark s.Annotation ∷ []) (name ∷ number ∷ Mark s.Close ∷ Mark s.BraceClose ∷ []) ∷
+    -- void f() { _(^while (1)) }
+    says UnknownForm (Key k.Void ∷ name ∷ Mark s.Open ∷ Mark s.Close ∷ Mark s.BraceOpen ∷ Mark s.Annotation ∷ []) (Key k.While ∷ Mark s.Open ∷ number ∷ Mark s.Close ∷ Mark s.Close ∷ Mark s.BraceClose ∷ []) ∷
+    -- void f() { _(^int x) }
+    says UnknownForm (Key k.Void ∷ name ∷ Mark s.Open ∷ Mark s.Close ∷ Mark s.BraceOpen ∷ Mark s.Annotation ∷ []) (Key k.Int ∷ name ∷ Mark s.Close ∷ Mark s.BraceClose ∷ []) ∷
+    -- void f() { _(^NULL) }
+    says UnknownForm (Key k.Void ∷ name ∷ Mark s.Open ∷ Mark s.Close ∷ Mark s.BraceOpen ∷ Mark s.Annotation ∷ []) (Key k.Null ∷ Mark s.Close ∷ Mark s.BraceClose ∷ []) ∷
+    -- void f() { _(^requires 1) }
+    says UnexpectedToken (Key k.Void ∷ name ∷ Mark s.Open ∷ Mark s.Close ∷ Mark s.BraceOpen ∷ Mark s.Annotation ∷ []) (Key k.Requires ∷ number ∷ Mark s.Close ∷ Mark s.BraceClose ∷ []) ∷
+    -- void f() { _(^\true) }
+    says UnexpectedToken (Key k.Void ∷ name ∷ Mark s.Open ∷ Mark s.Close ∷ Mark s.BraceOpen ∷ Mark s.Annotation ∷ []) (Spec w.True ∷ Mark s.Close ∷ Mark s.BraceClose ∷ []) ∷
+    -- void f() { _(^1) }
+    says UnexpectedToken (Key k.Void ∷ name ∷ Mark s.Open ∷ Mark s.Close ∷ Mark s.BraceOpen ∷ Mark s.Annotation ∷ []) (number ∷ Mark s.Close ∷ Mark s.BraceClose ∷ []) ∷
+    -- _(claimable, ^foo) struct S { };
+    says UnexpectedToken (Mark s.Annotation ∷ Key k.Claimable ∷ Mark s.Comma ∷ []) (name ∷ Mark s.Close ∷ Key k.Struct ∷ name ∷ Mark s.BraceOpen ∷ Mark s.BraceClose ∷ Mark s.Semicolon ∷ []) ∷
+    -- void f() { x = 1 ^_(assume 1); }
+    says UnexpectedToken (Key k.Void ∷ name ∷ Mark s.Open ∷ Mark s.Close ∷ Mark s.BraceOpen ∷ name ∷ Mark s.Assign ∷ number ∷ []) (Mark s.Annotation ∷ name ∷ number ∷ Mark s.Close ∷ Mark s.Semicolon ∷ Mark s.BraceClose ∷ []) ∷
+    -- void f() ^_ assert(1) { }
+    says UnexpectedToken (Key k.Void ∷ name ∷ Mark s.Open ∷ Mark s.Close ∷ []) (name ∷ Key k.Assert ∷ Mark s.Open ∷ number ∷ Mark s.Close ∷ Mark s.BraceOpen ∷ Mark s.BraceClose ∷ []) ∷
+    -- _(^assert 1) struct S { };
+    says UnexpectedToken (Mark s.Annotation ∷ []) (Key k.Assert ∷ number ∷ Mark s.Close ∷ Key k.Struct ∷ name ∷ Mark s.BraceOpen ∷ Mark s.BraceClose ∷ Mark s.Semicolon ∷ []) ∷
+    -- struct S { _(^free x) };
+    says UnknownForm (Key k.Struct ∷ name ∷ Mark s.BraceOpen ∷ Mark s.Annotation ∷ []) (Key k.Free ∷ name ∷ Mark s.Close ∷ Mark s.BraceClose ∷ Mark s.Semicolon ∷ []) ∷
+    -- void f() _(^modifies x) { }
+    says UnknownForm (Key k.Void ∷ name ∷ Mark s.Open ∷ Mark s.Close ∷ Mark s.Annotation ∷ []) (name ∷ name ∷ Mark s.Close ∷ Mark s.BraceOpen ∷ Mark s.BraceClose ∷ []) ∷
+    -- void f(int a _(^vararg x)) { }
+    says UnknownForm (Key k.Void ∷ name ∷ Mark s.Open ∷ Key k.Int ∷ name ∷ Mark s.Annotation ∷ []) (name ∷ name ∷ Mark s.Close ∷ Mark s.Close ∷ Mark s.BraceOpen ∷ Mark s.BraceClose ∷ []) ∷
+    -- no item at all
+    reads_none (read_source (placed 1 [])) ∷
+    []
+
+forms_hold : all_hold forms ≡ true
+unfolding reads read links climbs read_rule first first_rule low low_rule is_empty
+forms_hold = refl
 
 items_hold : all_hold items ≡ true
 unfolding reads read links climbs read_rule first first_rule low low_rule is_empty
