@@ -15,7 +15,10 @@ use Rattle.object_types.specs.Shapes.{same_entry, entry_lt, with_entry, entries_
 use Rattle.object_types.specs.Heap.{Heap, IsClosedIn, closed_in}
 use Rattle.method.specs.Tables.{struct_of, is_struct, struct_test}
 use Rattle.method.specs.SpecValue.{entry_holds}
-use Rattle.method.specs.Method.{inv_holds, struct_holds, inv_scene, claim_holds, Inv, Untouched, Legal, Kept, Good, site_entries, entries_hold, Admissible, GlobalLaw}
+use Rattle.method.specs.Invariants.{inv_holds, struct_holds, inv_scene, claim_holds, Inv}
+use Rattle.method.specs.Legal.{Untouched, Legal, Kept, Good}
+use Rattle.method.specs.WellFormed.{site_entries}
+use Rattle.method.specs.Admissible.{entries_hold, Admissible, GlobalLaw}
 
 -- a test that cannot fail holds
 pub by_contradiction : (b : Bool) → ((b ≡ true → ⊥) → b ≡ true) → b ≡ true
@@ -165,7 +168,7 @@ inv_of_none p o h0 h1 c k =
 -- a claim that a legal step doesn't touch keeps its property
 claim_kept : (p : Program) → Admissible p → (h0 h1 : Heap) → Good p h0 → Legal p h0 h1 → (o : Ref) → is_claim o ≡ true → IsClosedIn h0 o → IsClosedIn h1 o → Untouched o h0 h1 → claim_holds p o h1 ≡ true
 claim_kept p adm h0 h1 good legal o c b0 b1 u =
-    let made = good.sys.made o c b0 in
+    let made = good.well_formed.made o c b0 in
     let es = site_entries made.site made.me made.locals in
     let before : every (entry_holds p h0) (h0.get o).shapes ≡ true = sym (inv_of_claim p o h0 h0 c b0) ∙ good.all o b0 in
     let held : entries_hold p made.site made.me made.locals h0 ≡ true = sym (every_entries (entry_holds p h0) es) ∙ sym (ap (λ z. every (entry_holds p h0) z) made.shapes) ∙ before in
@@ -181,7 +184,7 @@ untouched_kept p adm h0 h1 good legal o b0 b1 u (inr c) (inr k) = inv_of_none p 
 
 pub legal_kept : (p : Program) → Admissible p → (h0 h1 : Heap) → Good p h0 → Legal p h0 h1 → Kept p h0 h1
 legal_kept p adm h0 h1 good legal = record {
-  sys = legal.sys;
+  well_formed = legal.well_formed;
   all = λ o c. by_contradiction (inv_holds p o h0 h1) (λ broken. legal.touched o c (λ u.
       let b = closed_in_both o h0 h1 u c in
       broken (untouched_kept p adm h0 h1 good legal o b.0 b.1 u (test_cases (is_claim o)) (test_cases (is_struct p o.ty)))));
@@ -196,4 +199,4 @@ later p adm h0 h1 good kept o b (inr c) (inr k) = inv_of_none p o h1 h1 c k
 pub global_law : GlobalLaw
 global_law p adm h0 h1 good legal =
     let kept = legal_kept p adm h0 h1 good legal in
-    (kept, record { sys = legal.sys.sys; all = λ o c. later p adm h0 h1 good kept o c (test_cases (is_claim o)) (test_cases (is_struct p o.ty)) })
+    (kept, record { well_formed = legal.well_formed.after; all = λ o c. later p adm h0 h1 good kept o c (test_cases (is_claim o)) (test_cases (is_struct p o.ty)) })

@@ -4,8 +4,8 @@ use Rattle.object_types.specs.declared.references.Ref.{Ref}
 use Rattle.method.specs.declared.program.Program.{Program}
 use Rattle.object_types.specs.References.{same_ref}
 use Rattle.object_types.specs.Heap.{Heap, Record, is_open}
-use Rattle.method.specs.Method.{IsFixed}
-use Rattle.method.specs.Law.{RelyComposes}
+use Rattle.method.specs.WellFormed.{IsFixed}
+use Rattle.method.specs.Rely.{RelyComposes}
 
 fixed_trans : (p : Program) (o : Ref) (h k j : Heap) → IsFixed p o h k → IsFixed p o k j → IsFixed p o h j
 fixed_trans p o h k j a b = record {

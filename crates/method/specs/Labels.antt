@@ -1,38 +1,41 @@
 -- The checks of a function in the order of their numbers: the labels' kinds and lines. Own. What a fault names by its number is the check that stands there.
-use Rattle.std.specs.Prelude.{◌≡◌, ℕ, ◌-◌, ◌≤◌, Bool, true, false, if◌then◌else◌, List, [], ◌∷◌, ◌++◌, map, replicate, length, Option, Some, None, slice_get}
+use Rattle.std.specs.Prelude.{◌≡◌, ◌==◌, ◌+◌, flat_map, ℕ, ◌-◌, ◌≤◌, Bool, true, false, if◌then◌else◌, List, [], ◌∷◌, ◌++◌, map, replicate, length, Option, Some, None, slice_get}
 use Rattle.object_types.specs.declared.values.Value.{Value}
 use Rattle.int_ranges.specs.declared.ctype.CType.{CType}
 use Rattle.method.specs.declared.program.DeclaredType.{DeclaredType}
 use Rattle.method.specs.declared.program.CheckKind.{CheckKind}
-use Rattle.method.specs.declared.program.CheckKind.TheVariants.{Divide, Range, Read, Write, Writes, Owns, Wrap, Unwrap, Claimed as HasClaims, Invariant, AtomicClosed, MakeClaim, ClaimStable, DestroyClaim, Requires, Ensures, Assert, LoopInv, Free, Spawn}
+use Rattle.method.specs.declared.program.CheckKind.TheVariants.{Divide, Range, Read, Write, Writes, Owns, Wrap, Unwrap, Claimed as HasClaims, Invariant, AtomicClosed, MakeClaim, ClaimStable, DestroyClaim, Requires, Ensures, Assert, LoopInv, Free, Spawn, Reflexive, Stable}
 use Rattle.method.specs.declared.program.Expr.{Expr}
 use Rattle.method.specs.declared.program.Expr.TheVariants.{Number, Null, Variable, Field', Not', Negate', Arithmetic', Compare', And', Or', Choose', Convert'}
 use Rattle.method.specs.declared.program.Target.{Target}
 use Rattle.method.specs.declared.program.Target.TheVariants.{Local, FieldOf}
-use Rattle.method.specs.declared.program.Afterwards.{Afterwards}
-use Rattle.method.specs.declared.program.Afterwards.TheVariants.{Plainly, Compared}
-use Rattle.method.specs.declared.program.Right.{Right}
-use Rattle.method.specs.declared.program.Right.TheVariants.{Compute, Malloc, NewClaim, Interlocked}
-use Rattle.method.specs.declared.program.Change.{Change}
-use Rattle.method.specs.declared.program.Change.TheVariants.{Becomes, Gains, Loses}
+use Rattle.method.specs.declared.program.InterlockedResult.{InterlockedResult}
+use Rattle.method.specs.declared.program.InterlockedResult.TheVariants.{Plainly, Compared}
+use Rattle.method.specs.declared.program.RightSide.{RightSide}
+use Rattle.method.specs.declared.program.RightSide.TheVariants.{Compute, Malloc, NewClaim, Interlocked}
+use Rattle.method.specs.declared.program.OwnsChange.{OwnsChange}
+use Rattle.method.specs.declared.program.OwnsChange.TheVariants.{Assigned, Added, Removed}
 use Rattle.method.specs.declared.program.Simple.{Simple}
 use Rattle.method.specs.declared.program.Simple.TheVariants.{Assign, ChangeOwned, EndClaim}
 use Rattle.method.specs.declared.program.Inner.{Inner, Row_of-Inner, end_of-Inner, more_of-Inner}
 use Rattle.method.specs.declared.program.Inner.TheVariants.{Inside, InsideIf'}
 use Rattle.method.specs.declared.program.Action.{Action}
-use Rattle.method.specs.declared.program.Action.TheVariants.{Simply, Declare, Define, Close, Open, Say, Release, Start, Atomic}
+use Rattle.method.specs.declared.program.Action.TheVariants.{Simply, Declare, Define, WrapObject, UnwrapObject, AssertSpec, FreeObject, SpawnThread, Atomic}
 use Rattle.method.specs.declared.program.Receiver.{Receiver}
 use Rattle.method.specs.declared.program.Receiver.TheVariants.{Nobody, NewVariable, Place as Left}
 use Rattle.method.specs.declared.program.Claimed.{Claimed}
 use Rattle.method.specs.declared.program.Claimed.TheVariants.{ClaimedVariable, ClaimedNull, ClaimedOther}
-use Rattle.method.specs.declared.program.Site.{Site}
+use Rattle.method.specs.declared.program.ClaimSite.{ClaimSite}
 use Rattle.method.specs.declared.program.Stmt.{Stmt, Row_of-Stmt, end_of-Stmt, more_of-Stmt}
 use Rattle.method.specs.declared.program.Stmt.TheVariants.{Do, If', While', DoWhile', Unwrapping', Call, Return}
+use Rattle.method.specs.declared.program.StructInfo.{StructInfo}
 use Rattle.method.specs.declared.program.FunctionInfo.{FunctionInfo}
+use Rattle.method.specs.declared.program.Item.{Item}
+use Rattle.method.specs.declared.program.Item.TheVariants.{Struct, Function}
 use Rattle.method.specs.declared.program.Program.{Program}
 use Rattle.object_types.specs.Heap.{Heap}
-use Rattle.method.specs.Code.{Context, Failed, divides}
-use Rattle.method.specs.Acts.{Supply, act, operands, counts, listed_exprs, plain_listed, list_tally}
+use Rattle.method.specs.Expressions.{Context, Failed, divides}
+use Rattle.method.specs.Actions.{Supply, act, operands, counts, listed_exprs, plain_listed, list_tally}
 
 -- the kind and line of a check
 pub record Label : Type 0 where
@@ -76,7 +79,7 @@ abbrev pub conversion_kinds : Option CType → List CheckKind
 conversion_kinds None = []
 conversion_kinds (Some c) = Range ∷ []
 
-abbrev pub afterwards_kinds : Afterwards → List CheckKind
+abbrev pub afterwards_kinds : InterlockedResult → List CheckKind
 afterwards_kinds (Plainly c) = conversion_kinds c
 afterwards_kinds (Compared c equal e d) = conversion_kinds c ++ kinds e ++ conversion_kinds d
 
@@ -86,13 +89,13 @@ claimed_kinds (ClaimedVariable i ∷ cs) = claimed_kinds cs
 claimed_kinds (ClaimedNull ∷ cs) = claimed_kinds cs
 claimed_kinds (ClaimedOther e ty ∷ cs) = kinds e ++ claimed_kinds cs
 
-abbrev pub site_kinds : Bool → Option Site → List CheckKind
+abbrev pub site_kinds : Bool → Option ClaimSite → List CheckKind
 site_kinds inside None = []
 site_kinds inside (Some s) =
     claimed_kinds s.claimed.items ++ replicate (length s.claimed.items) MakeClaim ++ (ClaimStable ∷ []) ++
-    (if inside then [] else replicate (length s.parts.items) MakeClaim ++ replicate (length s.claimed.items) Invariant)
+    (if inside then [] else replicate (length s.conjuncts.items) MakeClaim ++ replicate (length s.claimed.items) Invariant)
 
-abbrev pub right_kinds : Program → Bool → Right → List CheckKind
+abbrev pub right_kinds : Program → Bool → RightSide → List CheckKind
 right_kinds p inside (Compute e) = kinds e
 right_kinds p inside (Malloc ty) = []
 right_kinds p inside (NewClaim n) = site_kinds inside (slice_get p.sites.items n)
@@ -103,10 +106,10 @@ abbrev pub member_kinds : Bool → List Expr → List CheckKind
 member_kinds inside [] = []
 member_kinds inside (e ∷ es) = Write ∷ (if inside then Owns else Writes) ∷ member_kinds inside es
 
-abbrev pub change_kinds : Bool → Change → List Expr → List CheckKind
-change_kinds inside Becomes es = Write ∷ Writes ∷ []
-change_kinds inside Gains es = member_kinds inside es
-change_kinds inside Loses es = member_kinds inside es
+abbrev pub change_kinds : Bool → OwnsChange → List Expr → List CheckKind
+change_kinds inside Assigned es = Write ∷ Writes ∷ []
+change_kinds inside Added es = member_kinds inside es
+change_kinds inside Removed es = member_kinds inside es
 
 abbrev pub simple_kinds : Program → Bool → Simple → List CheckKind
 simple_kinds p inside (Assign t r) = target_kinds t ++ right_kinds p inside r ++ store_kinds t
@@ -139,11 +142,11 @@ abbrev pub action_labels : Program → ℕ → Action → List Label
 action_labels p line (Simply s) = on_line line (simple_kinds p false s)
 action_labels p line (Declare i) = []
 action_labels p line (Define i r) = on_line line (right_kinds p false r)
-action_labels p line (Close ty q e) = on_line line (kinds e ++ (Wrap ∷ Writes ∷ Wrap ∷ Invariant ∷ []))
-action_labels p line (Open e) = on_line line (kinds e ++ (Unwrap ∷ Writes ∷ HasClaims ∷ []))
-action_labels p line (Say e) = on_line line (Assert ∷ [])
-action_labels p line (Release e) = on_line line (kinds e ++ (Free ∷ Writes ∷ []))
-action_labels p line (Start k es) = on_line line (all_kinds es.items ++ spawn_kinds (slice_get p.functions.items k))
+action_labels p line (WrapObject ty q e) = on_line line (kinds e ++ (Wrap ∷ Writes ∷ Wrap ∷ Invariant ∷ []))
+action_labels p line (UnwrapObject e) = on_line line (kinds e ++ (Unwrap ∷ Writes ∷ HasClaims ∷ []))
+action_labels p line (AssertSpec e) = on_line line (Assert ∷ [])
+action_labels p line (FreeObject e) = on_line line (kinds e ++ (Free ∷ Writes ∷ []))
+action_labels p line (SpawnThread k es) = on_line line (all_kinds es.items ++ spawn_kinds (slice_get p.functions.items k))
 action_labels p line (Atomic ls body) =
     on_line line (all_kinds (listed_exprs ls.items) ++ replicate (length ls.items) AtomicClosed) ++ inner_list_labels p body.items ++
     on_line line (replicate (plain_listed ls.items) Invariant ++ replicate (list_tally p body.items).objects Invariant ++ replicate (list_tally p body.items).claims Invariant)
@@ -186,6 +189,36 @@ module _ (p : Program) (f : FunctionInfo) where
   -- the labels of the function, from number 1 on
   abbrev pub labels : List Label
   labels = body_labels f.body.items ++ end_labels f.result
+
+-- a struct with an invariant has two labels, on the line of its word `struct`; one without has none
+abbrev pub struct_labels : StructInfo → List Label
+struct_labels s = if length s.invariants.items == 0 then [] else on_line s.line (Reflexive ∷ Stable ∷ [])
+
+-- a check of the program: the item that it belongs to, its ordinal there from 1, its kind and line
+pub record ProgramLabel : Type 0 where
+  pub item : Item
+  pub ordinal : ℕ
+  pub check : Label
+
+abbrev pub numbered : Item → ℕ → List Label → List ProgramLabel
+numbered item n [] = []
+numbered item n (l ∷ ls) = record { item = item; ordinal = n; check = l } ∷ numbered item (n + 1) ls
+
+abbrev pub struct_or_none : Option StructInfo → List Label
+struct_or_none None = []
+struct_or_none (Some s) = struct_labels s
+
+abbrev pub function_or_none : Program → Option FunctionInfo → List Label
+function_or_none p None = []
+function_or_none p (Some f) = labels p f
+
+abbrev pub item_labels : Program → Item → List Label
+item_labels p (Struct n) = struct_or_none (slice_get p.structs.items n)
+item_labels p (Function n) = function_or_none p (slice_get p.functions.items n)
+
+-- the labels of a program, in the order of the text
+abbrev pub program_labels : Program → List ProgramLabel
+program_labels p = flat_map (λ i. numbered i 1 (item_labels p i)) p.items.items
 
 -- an action's fault has the kind and line of the check with its number
 abbrev pub FaultsAreLabelled : Type 0

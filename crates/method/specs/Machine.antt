@@ -20,23 +20,23 @@ use Rattle.object_types.specs.Values.{referent, truth}
 use Rattle.object_types.specs.Heap.{Heap, IsClosedIn, is_open}
 use Rattle.method.specs.Tables.{in_type, zero_of}
 use Rattle.method.specs.SpecValue.{Scene}
-use Rattle.method.specs.Method.{Good, Kept}
-use Rattle.method.specs.Code.{Outcome, Unfit, Gives, after, Context, Spot, may_write, eval, eval_all, scene, call_scene, return_scene, End, Misfit, Failed, Gave, Tested, spec_test, clause_tests, item_tests, check_specs}
-use Rattle.method.specs.Overflow.{Overflow}
-use Rattle.method.specs.Acts.{Place, InLocal, Supply, Fresh, Going, spot, going, act, left_side, convert_to, store, open_object, close, items_of, clauses_hold, no_choices, fitting}
+use Rattle.method.specs.Legal.{Good, Kept}
+use Rattle.method.specs.Expressions.{Outcome, Unfit, Gives, after, Context, Spot, may_write, eval, eval_all, scene, call_scene, return_scene, End, Misfit, Failed, Gave, Tested, spec_test, clause_tests, item_tests, check_specs}
+use Rattle.method.specs.Overflow.{Overflow, or_else}
+use Rattle.method.specs.Actions.{Place, InLocal, Supply, Fresh, Progress, spot, starting, act, left_side, convert_to, store, open_object, close, items_of, clauses_hold, no_choices, fitting}
 
 -- What is left of a function's code: statements; the test of a `do`; the wrap of an unwrapping block, its object worked out; the store of a call's value, its left side worked out. A `while` comes back as itself behind its body.
-pub data Todo : Type 0 where
-  Run : Stmt → Todo
-  Test : (line : ℕ) → Expr → (loop : Stmt) → Todo
-  CloseAgain : (line ty : ℕ) → Ref → Todo
-  Receive : (line : ℕ) → Place → Option CType → Todo
+pub data Remaining : Type 0 where
+  Run : Stmt → Remaining
+  Test : (line : ℕ) → Expr → (loop : Stmt) → Remaining
+  WrapAgain : (line ty : ℕ) → Ref → Remaining
+  Receive : (line : ℕ) → Place → Option CType → Remaining
 
 -- a function that is being run
 pub record Activation : Type 0 where
   pub context : Context
   pub locals : List Value
-  pub code : List Todo
+  pub code : List Remaining
 
 -- a thread: its number, and its functions that are being run, the last called first; none once it has ended
 pub record Thread : Type 0 where
@@ -54,7 +54,7 @@ pub record Turn : Type 0 where
   pub started : List Context
   pub line : ℕ
 
-abbrev pub went : Activation → List Value → List Todo → Activation
+abbrev pub went : Activation → List Value → List Remaining → Activation
 went a l code = record { context = a.context; locals = l; code = code }
 
 abbrev pub zeros_of : List VariableInfo → List Value
@@ -80,19 +80,19 @@ module _ (p : Program) where
   abbrev pub invariants : {A : Type 0} → Spot → List Spec → Heap → List Value → ℕ → Outcome A → Outcome A
   invariants at_ invs h l n o = check_specs at_ (map (λ e. spec_test p e (scene at_.context h l)) invs) n LoopInv o
 
-  abbrev pub action_turn : ℕ → Activation → List Todo → List Activation → Outcome Going → Outcome Turn
+  abbrev pub action_turn : ℕ → Activation → List Remaining → List Activation → Outcome Progress → Outcome Turn
   action_turn line a code below o = after o (λ g. Gives (record { heap = g.heap; frames = went a g.locals code ∷ below; started = g.started; line = line }))
 
   -- the heap and locals are as they were, and this is what is left of the code
-  abbrev pub moved : ℕ → Activation → List Todo → List Activation → Heap → Turn
+  abbrev pub moved : ℕ → Activation → List Remaining → List Activation → Heap → Turn
   moved line a code below h = record { heap = h; frames = went a a.locals code ∷ below; started = []; line = line }
 
-  abbrev pub received : Receiver → Spot → ℕ → Going → Outcome (Option Place)
+  abbrev pub received : Receiver → Spot → ℕ → Progress → Outcome (Option Place)
   received Nobody at_ n g = Gives None
   received (NewVariable i) at_ n g = Gives (Some (InLocal i))
   received (Left t) at_ n g = after (left_side p at_ t n g) (λ place. Gives (Some place))
 
-  abbrev pub and_receive : ℕ → Option CType → Option Place → List Todo → List Todo
+  abbrev pub and_receive : ℕ → Option CType → Option Place → List Remaining → List Remaining
   and_receive line c None code = code
   and_receive line c (Some place) code = Receive line place c ∷ code
 
@@ -100,7 +100,7 @@ module _ (p : Program) where
   abbrev pub callee : ℕ → FunctionInfo → Ref → Heap → List Value → Context
   callee k f me h args = record { function = k; me = me; entry = h; writes = items_of p f.writes.items (call_scene me h args); args = args }
 
-  abbrev pub call_turn : ℕ → Option FunctionInfo → Spot → List Value → Option CType → Option Place → Activation → List Todo → List Activation → Heap → Outcome Turn
+  abbrev pub call_turn : ℕ → Option FunctionInfo → Spot → List Value → Option CType → Option Place → Activation → List Remaining → List Activation → Heap → Outcome Turn
   call_turn k None at_ args c place a code below h = Unfit
   call_turn k (Some f) at_ args c place a code below h =
       let x = callee k f at_.context.me h args in
@@ -110,14 +110,14 @@ module _ (p : Program) where
       )
       )
 
-  abbrev pub resume_code : ℕ → Value → Activation → List Todo → List Activation → Heap → Outcome Turn
+  abbrev pub resume_code : ℕ → Value → Activation → List Remaining → List Activation → Heap → Outcome Turn
   resume_code line v a [] below h = Gives (moved line a [] below h)
   resume_code line v a (Run s ∷ code) below h = Gives (moved line a (Run s ∷ code) below h)
   resume_code line v a (Test tested e s ∷ code) below h = Gives (moved line a (Test tested e s ∷ code) below h)
-  resume_code line v a (CloseAgain wrapped ty o ∷ code) below h = Gives (moved line a (CloseAgain wrapped ty o ∷ code) below h)
+  resume_code line v a (WrapAgain wrapped ty o ∷ code) below h = Gives (moved line a (WrapAgain wrapped ty o ∷ code) below h)
   resume_code line v a (Receive called place c ∷ code) below h =
       after (convert_to (spot a.context [] called) c v 0) (λ w.
-      action_turn line a code below (store p (spot a.context [] called) place w 0 (going h a.locals (Fresh 0)))
+      action_turn line a code below (store p (spot a.context [] called) place w 0 (starting h a.locals (Fresh 0)))
       )
 
   -- the caller goes on; it stores the value if it wants one, with the call's line
@@ -135,14 +135,14 @@ module _ (p : Program) where
   value_of at_ None h l n = Gives (Int (pos 0))
   value_of at_ (Some e) h l n = eval p at_ h l e n
 
-  abbrev pub while_turn : Stmt → Spot → List Spec → Expr → List Stmt → Activation → List Todo → List Activation → Heap → Outcome Turn
+  abbrev pub while_turn : Stmt → Spot → List Spec → Expr → List Stmt → Activation → List Remaining → List Activation → Heap → Outcome Turn
   while_turn s at_ invs e body a code below h =
       invariants at_ invs h a.locals 0 (
       after (eval p at_ h a.locals e 0) (λ v. Gives (moved at_.line a (if truth v then map Run body ++ Run s ∷ code else code) below h))
       )
 
   -- what the next item of a function comes to, where new references come from this supply
-  abbrev pub turn_of : Supply → List Value → Activation → List Todo → List Activation → Heap → Outcome Turn
+  abbrev pub turn_of : Supply → List Value → Activation → List Remaining → List Activation → Heap → Outcome Turn
   turn_of supply choices a [] below h = fitting (no_choices choices) (return_turn (end_line (slice_get p.functions.items a.context.function)) (Int (pos 0)) a below h)
   turn_of supply choices a (Run (Do line x) ∷ code) below h = action_turn line a code below (act p a.context choices supply line x 0 h a.locals)
   turn_of supply choices a (Run (If' line e m then_row n else_row) ∷ code) below h =
@@ -162,12 +162,12 @@ module _ (p : Program) where
   turn_of supply choices a (Run (Unwrapping' line ty q e m row) ∷ code) below h =
       fitting (no_choices choices) (
       after (eval p (spot a.context [] line) h a.locals e 0) (λ v.
-      action_turn line a (map Run (items-the_row-Stmt _ row) ++ CloseAgain line ty (referent v) ∷ code) below (open_object p (spot a.context [] line) (referent v) 0 (going h a.locals supply))
+      action_turn line a (map Run (items-the_row-Stmt _ row) ++ WrapAgain line ty (referent v) ∷ code) below (open_object p (spot a.context [] line) (referent v) 0 (starting h a.locals supply))
       )
       )
   turn_of supply choices a (Run (Call line to c k es) ∷ code) below h =
       fitting (no_choices choices) (
-      after (received to (spot a.context [] line) 0 (going h a.locals supply)) (λ place.
+      after (received to (spot a.context [] line) 0 (starting h a.locals supply)) (λ place.
       after (eval_all p (spot a.context [] line) h a.locals es.items 0) (λ args.
       call_turn k (slice_get p.functions.items k) (spot a.context [] line) args c place a code below h
       )
@@ -177,8 +177,8 @@ module _ (p : Program) where
       fitting (no_choices choices) (after (value_of (spot a.context [] line) e h a.locals 0) (λ v. return_turn line v a below h))
   turn_of supply choices a (Test line e s ∷ code) below h =
       fitting (no_choices choices) (after (eval p (spot a.context [] line) h a.locals e 0) (λ v. Gives (moved line a (if truth v then Run s ∷ code else code) below h)))
-  turn_of supply choices a (CloseAgain line ty o ∷ code) below h =
-      fitting (no_choices choices) (action_turn line a code below (close p (spot a.context [] line) ty o 0 (going h a.locals supply)))
+  turn_of supply choices a (WrapAgain line ty o ∷ code) below h =
+      fitting (no_choices choices) (action_turn line a code below (close p (spot a.context [] line) ty o 0 (starting h a.locals supply)))
   turn_of supply choices a (Receive line place c ∷ code) below h = Unfit
 
   abbrev pub thread_turn : Supply → List Value → List Activation → Heap → Outcome Turn
@@ -236,6 +236,11 @@ left_by s (Next s' line) = s'
 abbrev pub run : Program → List Event → State → State
 run p [] s = s
 run p (e ∷ es) s = run p es (left_by s (step p s e))
+
+-- the first such value of a list of events
+abbrev pub run_overflow : Program → List Event → State → Option Overflow
+run_overflow p [] s = None
+run_overflow p (e ∷ es) s = or_else (step_overflow p s e) (run_overflow p es (left_by s (step p s e)))
 
 abbrev pub all_true : List Bool → Bool
 all_true [] = true

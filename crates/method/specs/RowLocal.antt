@@ -8,17 +8,18 @@ use Rattle.method.specs.declared.program.CheckKind.TheVariants.{Range}
 use Rattle.method.specs.declared.program.Operator.TheVariants.{Plus}
 use Rattle.method.specs.declared.program.Expr.TheVariants.{Number, Variable, Arithmetic'}
 use Rattle.method.specs.declared.program.Target.TheVariants.{Local}
-use Rattle.method.specs.declared.program.Right.TheVariants.{Compute}
+use Rattle.method.specs.declared.program.RightSide.TheVariants.{Compute}
 use Rattle.method.specs.declared.program.Simple.TheVariants.{Assign}
 use Rattle.method.specs.declared.program.Action.TheVariants.{Simply}
 use Rattle.method.specs.declared.program.Stmt.TheVariants.{Do}
+use Rattle.method.specs.declared.program.Item.TheVariants.{Function}
 use Rattle.method.specs.declared.program.FunctionInfo.{FunctionInfo}
 use Rattle.method.specs.declared.program.Program.{Program}
 use Rattle.object_types.specs.Heap.{Heap}
 use Rattle.method.specs.Tables.{in_type}
-use Rattle.method.specs.Method.{Good}
-use Rattle.method.specs.Acts.{act}
-use Rattle.method.specs.LocalRun.{LocalOk}
+use Rattle.method.specs.Legal.{Good}
+use Rattle.method.specs.Actions.{act}
+use Rattle.method.specs.LocalRuns.{LocalOk}
 use Rattle.method.specs.Trace.{Memory, vec, box}
 
 -- void main(int x) { x = x + 1; }
@@ -37,7 +38,7 @@ module _ (m : Memory) where
   }
 
   abbrev pub four : Program
-  four = record { structs = vec m []; fields = vec m []; functions = vec m (main_four ∷ []); sites = vec m []; shapes = vec m []; main = 0 }
+  four = record { structs = vec m []; fields = vec m []; functions = vec m (main_four ∷ []); sites = vec m []; shapes = vec m []; items = vec m (Function 0 ∷ []); main = 0 }
 
   -- from any good heap
   pub fails_first : (h : Heap) → Good four h → LocalOk four 0 1 → ⊥

@@ -1,5 +1,5 @@
 -- A worked program, run by computation. Made from its source by a script; the lines are those of the source.
-use Rattle.std.specs.Prelude.{◌≡◌, pos, true, false, ◌&&◌, List, [], ◌∷◌, None, slice_get, refl}
+use Rattle.std.specs.Prelude.{◌≡◌, pos, true, false, ◌&&◌, List, [], ◌∷◌, length, Some, None, slice_get, refl}
 use Rattle.object_types.specs.declared.values.Value.TheVariants.{Int, Ref as Refers}
 use Rattle.int_ranges.specs.declared.ctype.CType.TheVariants.{Int as SignedInt}
 use Rattle.method.specs.declared.program.DeclaredType.TheVariants.{Integer, Pointer, Object, Claim}
@@ -9,17 +9,18 @@ use Rattle.method.specs.declared.program.Expr.TheVariants.{Number, Null, Variabl
 use Rattle.method.specs.declared.program.Spec.TheVariants.{Number as SNumber, Truth as STruth, Variable as SVariable, This as SThis, Field' as SField, Member' as SMember, Compare' as SCompare, And' as SAnd, Implies' as SImplies, Wrapped' as SWrapped, Mutable' as SMutable, Fresh' as SFresh, ClaimsObject' as SClaimsObject}
 use Rattle.method.specs.declared.program.Target.TheVariants.{Local, FieldOf}
 use Rattle.method.specs.declared.program.Operation.TheVariants.{CompareExchange}
-use Rattle.method.specs.declared.program.Afterwards.TheVariants.{Compared}
-use Rattle.method.specs.declared.program.Right.TheVariants.{Compute, Malloc, NewClaim, Interlocked}
-use Rattle.method.specs.declared.program.Change.TheVariants.{Becomes, Gains, Loses}
+use Rattle.method.specs.declared.program.InterlockedResult.TheVariants.{Compared}
+use Rattle.method.specs.declared.program.RightSide.TheVariants.{Compute, Malloc, NewClaim, Interlocked}
+use Rattle.method.specs.declared.program.OwnsChange.TheVariants.{Assigned, Added, Removed}
 use Rattle.method.specs.declared.program.Simple.TheVariants.{Assign, ChangeOwned}
 use Rattle.method.specs.declared.program.Inner.{end_of-Inner, more_of-Inner}
 use Rattle.method.specs.declared.program.Inner.TheVariants.{Inside, InsideIf'}
-use Rattle.method.specs.declared.program.Action.TheVariants.{Simply, Define, Close, Open, Start, Atomic}
+use Rattle.method.specs.declared.program.Action.TheVariants.{Simply, Define, WrapObject, UnwrapObject, SpawnThread, Atomic}
 use Rattle.method.specs.declared.program.Receiver.TheVariants.{Nobody}
 use Rattle.method.specs.declared.program.Claimed.TheVariants.{ClaimedVariable}
 use Rattle.method.specs.declared.program.Stmt.{Stmt, end_of-Stmt, more_of-Stmt}
 use Rattle.method.specs.declared.program.Stmt.TheVariants.{Do, If', DoWhile', Call}
+use Rattle.method.specs.declared.program.Item.TheVariants.{Struct, Function}
 use Rattle.method.specs.declared.program.FunctionInfo.{FunctionInfo}
 use Rattle.method.specs.declared.program.Program.{Program}
 use Rattle.object_types.specs.declared.records.Mode.TheVariants.{Closed as IsClosed}
@@ -27,14 +28,14 @@ use Rattle.object_types.specs.References.{ref, thread, same_ref}
 use Rattle.object_types.specs.Sets.{is_in, every}
 use Rattle.object_types.specs.Heap.{Heap, empty_heap, put, hand_over}
 use Rattle.method.specs.Tables.{in_type}
-use Rattle.method.specs.Method.{inv_holds}
-use Rattle.method.specs.Ownership.{is_stable}
-use Rattle.method.specs.Acts.{act}
-use Rattle.method.specs.Walk.{body_checks}
-use Rattle.method.specs.Machine.{State, Event, step, step_overflow, run, begin, callee}
+use Rattle.method.specs.Invariants.{inv_holds}
+use Rattle.method.specs.StableSet.{in_stable_set}
+use Rattle.method.specs.Actions.{act}
+use Rattle.method.specs.Text.{body_checks}
+use Rattle.method.specs.Machine.{State, Event, step, run_overflow, run, begin, callee}
 use Rattle.method.specs.Trace.{Memory, vec, box, Line, trace, event, Look, seen, look, label}
-use Rattle.method.specs.Labels.{labels}
-use Rattle.method.specs.Wellformed.{stmt_ok, of_content, is_conjunct, site_ok}
+use Rattle.method.specs.Labels.{labels, program_labels}
+use Rattle.method.specs.Typing.{stmt_ok, of_content, is_conjunct, site_ok}
 
 module _ (m : Memory) where
   abbrev pub InitializeLock_0 : Stmt
@@ -44,10 +45,10 @@ module _ (m : Memory) where
   InitializeLock_1 = Do 17 (Simply (Assign (FieldOf (Variable 0) 2) (Compute (Variable 1))))
 
   abbrev pub InitializeLock_2 : Stmt
-  InitializeLock_2 = Do 18 (Simply (ChangeOwned Becomes (Variable 0) (vec m ((Variable 1) ∷ []))))
+  InitializeLock_2 = Do 18 (Simply (ChangeOwned Assigned (Variable 0) (vec m ((Variable 1) ∷ []))))
 
   abbrev pub InitializeLock_3 : Stmt
-  InitializeLock_3 = Do 19 (Close 4 0 (Variable 0))
+  InitializeLock_3 = Do 19 (WrapObject 4 0 (Variable 0))
 
   abbrev pub body_InitializeLock : List Stmt
   body_InitializeLock = (InitializeLock_0 ∷ InitializeLock_1 ∷ InitializeLock_2 ∷ InitializeLock_3 ∷ [])
@@ -59,7 +60,7 @@ module _ (m : Memory) where
   Acquire_0 = Do 25 (Define 2 (Compute (Number (pos 0))))
 
   abbrev pub Acquire_1 : Stmt
-  Acquire_1 = DoWhile' 26 (vec m ([])) (vec m (tt ∷ [])) (more_of-Stmt (Do 27 (Atomic (vec m (record { object = (Variable 1); is_claim = true } ∷ record { object = (Variable 0); is_claim = false } ∷ [])) (vec m ((Inside 28 (Assign (Local 2) (Interlocked (Variable 0) 1 (CompareExchange (Number (pos 1)) (Number (pos 0))) (Compared None true (Number (pos 0)) None)))) ∷ (InsideIf' 29 (Variable 2) (vec m (tt ∷ [])) (more_of-Inner (Inside 29 (ChangeOwned Loses (Variable 0) (vec m ((Field' (box m) (Variable 0) 2) ∷ [])))) end_of-Inner) (vec m ([])) end_of-Inner) ∷ [])))) end_of-Stmt) 31 (Not' (box m) (Variable 2))
+  Acquire_1 = DoWhile' 26 (vec m ([])) (vec m (tt ∷ [])) (more_of-Stmt (Do 27 (Atomic (vec m (record { object = (Variable 1); is_claim = true } ∷ record { object = (Variable 0); is_claim = false } ∷ [])) (vec m ((Inside 28 (Assign (Local 2) (Interlocked (Variable 0) 1 (CompareExchange (Number (pos 1)) (Number (pos 0))) (Compared None true (Number (pos 0)) None)))) ∷ (InsideIf' 29 (Variable 2) (vec m (tt ∷ [])) (more_of-Inner (Inside 29 (ChangeOwned Removed (Variable 0) (vec m ((Field' (box m) (Variable 0) 2) ∷ [])))) end_of-Inner) (vec m ([])) end_of-Inner) ∷ [])))) end_of-Stmt) 31 (Not' (box m) (Variable 2))
 
   abbrev pub body_Acquire : List Stmt
   body_Acquire = (Acquire_0 ∷ Acquire_1 ∷ [])
@@ -68,7 +69,7 @@ module _ (m : Memory) where
   fn_Acquire = record { name = m.text; result = None; parameters = 2; variables = (vec m (record { name = m.text; ty = (Pointer 4); is_ghost = false } ∷ record { name = m.text; ty = Claim; is_ghost = true } ∷ record { name = m.text; ty = (Integer SignedInt); is_ghost = false } ∷ [])); requires_ = (vec m (record { line = 22; spec = (SAnd (box m) (SWrapped (box m) (SVariable 1)) (box m) (SClaimsObject (box m) (SVariable 1) (box m) (SVariable 0))) } ∷ [])); ensures_ = (vec m (record { line = 22; spec = (SAnd (box m) (SWrapped (box m) (SVariable 1)) (box m) (SClaimsObject (box m) (SVariable 1) (box m) (SVariable 0))) } ∷ record { line = 23; spec = (SAnd (box m) (SWrapped (box m) (SField (box m) (SVariable 0) 2)) (box m) (SFresh (box m) (SField (box m) (SVariable 0) 2))) } ∷ [])); writes = (vec m ([])); body = vec m body_Acquire; end = 32 }
 
   abbrev pub Release_0 : Stmt
-  Release_0 = Do 39 (Atomic (vec m (record { object = (Variable 1); is_claim = true } ∷ record { object = (Variable 0); is_claim = false } ∷ [])) (vec m ((Inside 40 (Assign (FieldOf (Variable 0) 1) (Compute (Number (pos 0))))) ∷ (Inside 41 (ChangeOwned Gains (Variable 0) (vec m ((Field' (box m) (Variable 0) 2) ∷ [])))) ∷ [])))
+  Release_0 = Do 39 (Atomic (vec m (record { object = (Variable 1); is_claim = true } ∷ record { object = (Variable 0); is_claim = false } ∷ [])) (vec m ((Inside 40 (Assign (FieldOf (Variable 0) 1) (Compute (Number (pos 0))))) ∷ (Inside 41 (ChangeOwned Added (Variable 0) (vec m ((Field' (box m) (Variable 0) 2) ∷ [])))) ∷ [])))
 
   abbrev pub body_Release : List Stmt
   body_Release = (Release_0 ∷ [])
@@ -80,13 +81,13 @@ module _ (m : Memory) where
   Worker_0 = Call 48 Nobody None 1 (vec m ((Variable 0) ∷ (Variable 2) ∷ []))
 
   abbrev pub Worker_1 : Stmt
-  Worker_1 = Do 49 (Open (Variable 1))
+  Worker_1 = Do 49 (UnwrapObject (Variable 1))
 
   abbrev pub Worker_2 : Stmt
   Worker_2 = Do 50 (Simply (Assign (FieldOf (Variable 1) 0) (Compute (Number (pos 1)))))
 
   abbrev pub Worker_3 : Stmt
-  Worker_3 = Do 51 (Close 3 1 (Variable 1))
+  Worker_3 = Do 51 (WrapObject 3 1 (Variable 1))
 
   abbrev pub Worker_4 : Stmt
   Worker_4 = Call 52 Nobody None 2 (vec m ((Variable 0) ∷ (Variable 2) ∷ []))
@@ -104,7 +105,7 @@ module _ (m : Memory) where
   main_1 = Do 57 (Define 1 (Malloc 3))
 
   abbrev pub main_2 : Stmt
-  main_2 = If' 58 (And' (box m) (Compare' NotEqual (box m) (Variable 0) (box m) Null) (box m) (Compare' NotEqual (box m) (Variable 1) (box m) Null)) (vec m (tt ∷ tt ∷ tt ∷ tt ∷ tt ∷ tt ∷ tt ∷ [])) (more_of-Stmt (Do 59 (Simply (Assign (FieldOf (Variable 1) 0) (Compute (Number (pos 0)))))) (more_of-Stmt (Do 60 (Close 3 2 (Variable 1))) (more_of-Stmt (Call 61 Nobody None 0 (vec m ((Variable 0) ∷ (Variable 1) ∷ []))) (more_of-Stmt (Do 62 (Define 2 (NewClaim 0))) (more_of-Stmt (Do 63 (Define 3 (NewClaim 1))) (more_of-Stmt (Do 64 (Start 3 (vec m ((Variable 0) ∷ (Variable 1) ∷ (Variable 2) ∷ [])))) (more_of-Stmt (Do 65 (Start 3 (vec m ((Variable 0) ∷ (Variable 1) ∷ (Variable 3) ∷ [])))) end_of-Stmt))))))) (vec m ([])) end_of-Stmt
+  main_2 = If' 58 (And' (box m) (Compare' NotEqual (box m) (Variable 0) (box m) Null) (box m) (Compare' NotEqual (box m) (Variable 1) (box m) Null)) (vec m (tt ∷ tt ∷ tt ∷ tt ∷ tt ∷ tt ∷ tt ∷ [])) (more_of-Stmt (Do 59 (Simply (Assign (FieldOf (Variable 1) 0) (Compute (Number (pos 0)))))) (more_of-Stmt (Do 60 (WrapObject 3 2 (Variable 1))) (more_of-Stmt (Call 61 Nobody None 0 (vec m ((Variable 0) ∷ (Variable 1) ∷ []))) (more_of-Stmt (Do 62 (Define 2 (NewClaim 0))) (more_of-Stmt (Do 63 (Define 3 (NewClaim 1))) (more_of-Stmt (Do 64 (SpawnThread 3 (vec m ((Variable 0) ∷ (Variable 1) ∷ (Variable 2) ∷ [])))) (more_of-Stmt (Do 65 (SpawnThread 3 (vec m ((Variable 0) ∷ (Variable 1) ∷ (Variable 3) ∷ [])))) end_of-Stmt))))))) (vec m ([])) end_of-Stmt
 
   abbrev pub body_main : List Stmt
   body_main = (main_0 ∷ main_1 ∷ main_2 ∷ [])
@@ -113,7 +114,7 @@ module _ (m : Memory) where
   fn_main = record { name = m.text; result = None; parameters = 0; variables = (vec m (record { name = m.text; ty = (Pointer 4); is_ghost = false } ∷ record { name = m.text; ty = (Pointer 3); is_ghost = false } ∷ record { name = m.text; ty = Claim; is_ghost = true } ∷ record { name = m.text; ty = Claim; is_ghost = true } ∷ [])); requires_ = (vec m ([])); ensures_ = (vec m ([])); writes = (vec m ([])); body = vec m body_main; end = 67 }
 
   abbrev pub program : Program
-  program = record { structs = (vec m (record { name = m.text; line = 2; is_claimable = false; has_dynamic_owns = false; has_volatile_owns = false; first_field = 0; fields = 1; invariants = (vec m ((SCompare GreaterEqual (box m) (SField (box m) SThis 0) (box m) (SNumber (pos 0))) ∷ [])); mine = (vec m ([])) } ∷ record { name = m.text; line = 6; is_claimable = true; has_dynamic_owns = false; has_volatile_owns = true; first_field = 1; fields = 2; invariants = (vec m ((SImplies (box m) (SCompare Equal (box m) (SField (box m) SThis 1) (box m) (SNumber (pos 0))) (box m) (SMember (box m) (SField (box m) SThis 2) (box m) SThis)) ∷ [])); mine = (vec m ([])) } ∷ [])); fields = (vec m (record { name = m.text; of = 3; ty = (Integer SignedInt); is_volatile = false; is_ghost = false } ∷ record { name = m.text; of = 4; ty = (Integer SignedInt); is_volatile = true; is_ghost = false } ∷ record { name = m.text; of = 4; ty = Object; is_volatile = false; is_ghost = true } ∷ [])); functions = (vec m (fn_InitializeLock ∷ fn_Acquire ∷ fn_Release ∷ fn_Worker ∷ fn_main ∷ [])); sites = (vec m (record { function = 4; line = 62; variables = vec m []; claimed = (vec m (ClaimedVariable 0 ∷ [])); parts = (vec m (record { shape = 0; holes = (vec m ([])) } ∷ [])) } ∷ record { function = 4; line = 63; variables = vec m []; claimed = (vec m (ClaimedVariable 0 ∷ [])); parts = (vec m (record { shape = 0; holes = (vec m ([])) } ∷ [])) } ∷ [])); shapes = (vec m (record { holes = (vec m ([])); conjunct = (STruth true) } ∷ [])); main = 4 }
+  program = record { structs = (vec m (record { name = m.text; line = 2; is_claimable = false; has_dynamic_owns = false; has_volatile_owns = false; first_field = 0; fields = 1; invariants = (vec m ((SCompare GreaterEqual (box m) (SField (box m) SThis 0) (box m) (SNumber (pos 0))) ∷ [])); mine = (vec m ([])) } ∷ record { name = m.text; line = 6; is_claimable = true; has_dynamic_owns = false; has_volatile_owns = true; first_field = 1; fields = 2; invariants = (vec m ((SImplies (box m) (SCompare Equal (box m) (SField (box m) SThis 1) (box m) (SNumber (pos 0))) (box m) (SMember (box m) (SField (box m) SThis 2) (box m) SThis)) ∷ [])); mine = (vec m ([])) } ∷ [])); fields = (vec m (record { name = m.text; of = 3; ty = (Integer SignedInt); is_volatile = false; is_ghost = false } ∷ record { name = m.text; of = 4; ty = (Integer SignedInt); is_volatile = true; is_ghost = false } ∷ record { name = m.text; of = 4; ty = Object; is_volatile = false; is_ghost = true } ∷ [])); functions = (vec m (fn_InitializeLock ∷ fn_Acquire ∷ fn_Release ∷ fn_Worker ∷ fn_main ∷ [])); sites = (vec m (record { function = 4; line = 62; variables = vec m (0 ∷ []); claimed = (vec m (ClaimedVariable 0 ∷ [])); conjuncts = (vec m (record { shape = 0; holes = (vec m ([])) } ∷ [])) } ∷ record { function = 4; line = 63; variables = vec m (0 ∷ []); claimed = (vec m (ClaimedVariable 0 ∷ [])); conjuncts = (vec m (record { shape = 0; holes = (vec m ([])) } ∷ [])) } ∷ [])); shapes = (vec m (record { holes = (vec m ([])); conjunct = (STruth true) } ∷ [])); items = vec m (Struct 0 ∷ Struct 1 ∷ Function 0 ∷ Function 1 ∷ Function 2 ∷ Function 3 ∷ Function 4 ∷ []); main = 4 }
 
   abbrev pub heap : Heap
   heap = empty_heap
@@ -125,188 +126,12 @@ module _ (m : Memory) where
   start = record { heap = heap; threads = (record { number = 1; frames = begin program (callee program 4 fn_main (thread 1) heap ([])) ∷ [] } ∷ []) }
 
   pub runs : trace program events start ≡ Line 56 ∷ Line 57 ∷ Line 58 ∷ Line 59 ∷ Line 60 ∷ Line 61 ∷ Line 16 ∷ Line 17 ∷ Line 18 ∷ Line 19 ∷ Line 20 ∷ Line 62 ∷ Line 63 ∷ Line 64 ∷ Line 65 ∷ Line 67 ∷ Line 48 ∷ Line 48 ∷ Line 25 ∷ Line 26 ∷ Line 27 ∷ Line 25 ∷ Line 26 ∷ Line 27 ∷ Line 31 ∷ Line 31 ∷ Line 32 ∷ Line 49 ∷ Line 50 ∷ Line 51 ∷ Line 52 ∷ Line 39 ∷ Line 43 ∷ Line 53 ∷ Line 26 ∷ Line 27 ∷ Line 31 ∷ Line 32 ∷ Line 49 ∷ Line 50 ∷ Line 51 ∷ Line 52 ∷ Line 39 ∷ Line 43 ∷ Line 53 ∷ []
-  unfolding step act in_type same_ref put is_in inv_holds hand_over is_stable
+  unfolding step act in_type same_ref put is_in inv_holds hand_over in_stable_set
   runs = refl
 
-  pub narrow_0 : step_overflow program (run program ([]) start) (event 1 ((Int (pos 1)) ∷ (Int (pos 0)) ∷ (Refers (ref 0 0)) ∷ [])) ≡ None
-  unfolding step act in_type same_ref put is_in inv_holds hand_over is_stable
-  narrow_0 = refl
-
-  pub narrow_1 : step_overflow program (run program (event 1 ((Int (pos 1)) ∷ (Int (pos 0)) ∷ (Refers (ref 0 0)) ∷ []) ∷ []) start) (event 1 ((Int (pos 1)) ∷ (Int (pos 5)) ∷ [])) ≡ None
-  unfolding step act in_type same_ref put is_in inv_holds hand_over is_stable
-  narrow_1 = refl
-
-  pub narrow_2 : step_overflow program (run program (event 1 ((Int (pos 1)) ∷ (Int (pos 0)) ∷ (Refers (ref 0 0)) ∷ []) ∷ event 1 ((Int (pos 1)) ∷ (Int (pos 5)) ∷ []) ∷ []) start) (event 1 ([])) ≡ None
-  unfolding step act in_type same_ref put is_in inv_holds hand_over is_stable
-  narrow_2 = refl
-
-  pub narrow_3 : step_overflow program (run program (event 1 ((Int (pos 1)) ∷ (Int (pos 0)) ∷ (Refers (ref 0 0)) ∷ []) ∷ event 1 ((Int (pos 1)) ∷ (Int (pos 5)) ∷ []) ∷ event 1 ([]) ∷ []) start) (event 1 ([])) ≡ None
-  unfolding step act in_type same_ref put is_in inv_holds hand_over is_stable
-  narrow_3 = refl
-
-  pub narrow_4 : step_overflow program (run program (event 1 ((Int (pos 1)) ∷ (Int (pos 0)) ∷ (Refers (ref 0 0)) ∷ []) ∷ event 1 ((Int (pos 1)) ∷ (Int (pos 5)) ∷ []) ∷ event 1 ([]) ∷ event 1 ([]) ∷ []) start) (event 1 ([])) ≡ None
-  unfolding step act in_type same_ref put is_in inv_holds hand_over is_stable
-  narrow_4 = refl
-
-  pub narrow_5 : step_overflow program (run program (event 1 ((Int (pos 1)) ∷ (Int (pos 0)) ∷ (Refers (ref 0 0)) ∷ []) ∷ event 1 ((Int (pos 1)) ∷ (Int (pos 5)) ∷ []) ∷ event 1 ([]) ∷ event 1 ([]) ∷ event 1 ([]) ∷ []) start) (event 1 ([])) ≡ None
-  unfolding step act in_type same_ref put is_in inv_holds hand_over is_stable
-  narrow_5 = refl
-
-  pub narrow_6 : step_overflow program (run program (event 1 ((Int (pos 1)) ∷ (Int (pos 0)) ∷ (Refers (ref 0 0)) ∷ []) ∷ event 1 ((Int (pos 1)) ∷ (Int (pos 5)) ∷ []) ∷ event 1 ([]) ∷ event 1 ([]) ∷ event 1 ([]) ∷ event 1 ([]) ∷ []) start) (event 1 ([])) ≡ None
-  unfolding step act in_type same_ref put is_in inv_holds hand_over is_stable
-  narrow_6 = refl
-
-  pub narrow_7 : step_overflow program (run program (event 1 ((Int (pos 1)) ∷ (Int (pos 0)) ∷ (Refers (ref 0 0)) ∷ []) ∷ event 1 ((Int (pos 1)) ∷ (Int (pos 5)) ∷ []) ∷ event 1 ([]) ∷ event 1 ([]) ∷ event 1 ([]) ∷ event 1 ([]) ∷ event 1 ([]) ∷ []) start) (event 1 ([])) ≡ None
-  unfolding step act in_type same_ref put is_in inv_holds hand_over is_stable
-  narrow_7 = refl
-
-  pub narrow_8 : step_overflow program (run program (event 1 ((Int (pos 1)) ∷ (Int (pos 0)) ∷ (Refers (ref 0 0)) ∷ []) ∷ event 1 ((Int (pos 1)) ∷ (Int (pos 5)) ∷ []) ∷ event 1 ([]) ∷ event 1 ([]) ∷ event 1 ([]) ∷ event 1 ([]) ∷ event 1 ([]) ∷ event 1 ([]) ∷ []) start) (event 1 ([])) ≡ None
-  unfolding step act in_type same_ref put is_in inv_holds hand_over is_stable
-  narrow_8 = refl
-
-  pub narrow_9 : step_overflow program (run program (event 1 ((Int (pos 1)) ∷ (Int (pos 0)) ∷ (Refers (ref 0 0)) ∷ []) ∷ event 1 ((Int (pos 1)) ∷ (Int (pos 5)) ∷ []) ∷ event 1 ([]) ∷ event 1 ([]) ∷ event 1 ([]) ∷ event 1 ([]) ∷ event 1 ([]) ∷ event 1 ([]) ∷ event 1 ([]) ∷ []) start) (event 1 ([])) ≡ None
-  unfolding step act in_type same_ref put is_in inv_holds hand_over is_stable
-  narrow_9 = refl
-
-  pub narrow_10 : step_overflow program (run program (event 1 ((Int (pos 1)) ∷ (Int (pos 0)) ∷ (Refers (ref 0 0)) ∷ []) ∷ event 1 ((Int (pos 1)) ∷ (Int (pos 5)) ∷ []) ∷ event 1 ([]) ∷ event 1 ([]) ∷ event 1 ([]) ∷ event 1 ([]) ∷ event 1 ([]) ∷ event 1 ([]) ∷ event 1 ([]) ∷ event 1 ([]) ∷ []) start) (event 1 ([])) ≡ None
-  unfolding step act in_type same_ref put is_in inv_holds hand_over is_stable
-  narrow_10 = refl
-
-  pub narrow_11 : step_overflow program (run program (event 1 ((Int (pos 1)) ∷ (Int (pos 0)) ∷ (Refers (ref 0 0)) ∷ []) ∷ event 1 ((Int (pos 1)) ∷ (Int (pos 5)) ∷ []) ∷ event 1 ([]) ∷ event 1 ([]) ∷ event 1 ([]) ∷ event 1 ([]) ∷ event 1 ([]) ∷ event 1 ([]) ∷ event 1 ([]) ∷ event 1 ([]) ∷ event 1 ([]) ∷ []) start) (event 1 ([])) ≡ None
-  unfolding step act in_type same_ref put is_in inv_holds hand_over is_stable
-  narrow_11 = refl
-
-  pub narrow_12 : step_overflow program (run program (event 1 ((Int (pos 1)) ∷ (Int (pos 0)) ∷ (Refers (ref 0 0)) ∷ []) ∷ event 1 ((Int (pos 1)) ∷ (Int (pos 5)) ∷ []) ∷ event 1 ([]) ∷ event 1 ([]) ∷ event 1 ([]) ∷ event 1 ([]) ∷ event 1 ([]) ∷ event 1 ([]) ∷ event 1 ([]) ∷ event 1 ([]) ∷ event 1 ([]) ∷ event 1 ([]) ∷ []) start) (event 1 ([])) ≡ None
-  unfolding step act in_type same_ref put is_in inv_holds hand_over is_stable
-  narrow_12 = refl
-
-  pub narrow_13 : step_overflow program (run program (event 1 ((Int (pos 1)) ∷ (Int (pos 0)) ∷ (Refers (ref 0 0)) ∷ []) ∷ event 1 ((Int (pos 1)) ∷ (Int (pos 5)) ∷ []) ∷ event 1 ([]) ∷ event 1 ([]) ∷ event 1 ([]) ∷ event 1 ([]) ∷ event 1 ([]) ∷ event 1 ([]) ∷ event 1 ([]) ∷ event 1 ([]) ∷ event 1 ([]) ∷ event 1 ([]) ∷ event 1 ([]) ∷ []) start) (event 1 ([])) ≡ None
-  unfolding step act in_type same_ref put is_in inv_holds hand_over is_stable
-  narrow_13 = refl
-
-  pub narrow_14 : step_overflow program (run program (event 1 ((Int (pos 1)) ∷ (Int (pos 0)) ∷ (Refers (ref 0 0)) ∷ []) ∷ event 1 ((Int (pos 1)) ∷ (Int (pos 5)) ∷ []) ∷ event 1 ([]) ∷ event 1 ([]) ∷ event 1 ([]) ∷ event 1 ([]) ∷ event 1 ([]) ∷ event 1 ([]) ∷ event 1 ([]) ∷ event 1 ([]) ∷ event 1 ([]) ∷ event 1 ([]) ∷ event 1 ([]) ∷ event 1 ([]) ∷ []) start) (event 1 ([])) ≡ None
-  unfolding step act in_type same_ref put is_in inv_holds hand_over is_stable
-  narrow_14 = refl
-
-  pub narrow_15 : step_overflow program (run program (event 1 ((Int (pos 1)) ∷ (Int (pos 0)) ∷ (Refers (ref 0 0)) ∷ []) ∷ event 1 ((Int (pos 1)) ∷ (Int (pos 5)) ∷ []) ∷ event 1 ([]) ∷ event 1 ([]) ∷ event 1 ([]) ∷ event 1 ([]) ∷ event 1 ([]) ∷ event 1 ([]) ∷ event 1 ([]) ∷ event 1 ([]) ∷ event 1 ([]) ∷ event 1 ([]) ∷ event 1 ([]) ∷ event 1 ([]) ∷ event 1 ([]) ∷ []) start) (event 1 ([])) ≡ None
-  unfolding step act in_type same_ref put is_in inv_holds hand_over is_stable
-  narrow_15 = refl
-
-  pub narrow_16 : step_overflow program (run program (event 1 ((Int (pos 1)) ∷ (Int (pos 0)) ∷ (Refers (ref 0 0)) ∷ []) ∷ event 1 ((Int (pos 1)) ∷ (Int (pos 5)) ∷ []) ∷ event 1 ([]) ∷ event 1 ([]) ∷ event 1 ([]) ∷ event 1 ([]) ∷ event 1 ([]) ∷ event 1 ([]) ∷ event 1 ([]) ∷ event 1 ([]) ∷ event 1 ([]) ∷ event 1 ([]) ∷ event 1 ([]) ∷ event 1 ([]) ∷ event 1 ([]) ∷ event 1 ([]) ∷ []) start) (event 2 ([])) ≡ None
-  unfolding step act in_type same_ref put is_in inv_holds hand_over is_stable
-  narrow_16 = refl
-
-  pub narrow_17 : step_overflow program (run program (event 1 ((Int (pos 1)) ∷ (Int (pos 0)) ∷ (Refers (ref 0 0)) ∷ []) ∷ event 1 ((Int (pos 1)) ∷ (Int (pos 5)) ∷ []) ∷ event 1 ([]) ∷ event 1 ([]) ∷ event 1 ([]) ∷ event 1 ([]) ∷ event 1 ([]) ∷ event 1 ([]) ∷ event 1 ([]) ∷ event 1 ([]) ∷ event 1 ([]) ∷ event 1 ([]) ∷ event 1 ([]) ∷ event 1 ([]) ∷ event 1 ([]) ∷ event 1 ([]) ∷ event 2 ([]) ∷ []) start) (event 3 ([])) ≡ None
-  unfolding step act in_type same_ref put is_in inv_holds hand_over is_stable
-  narrow_17 = refl
-
-  pub narrow_18 : step_overflow program (run program (event 1 ((Int (pos 1)) ∷ (Int (pos 0)) ∷ (Refers (ref 0 0)) ∷ []) ∷ event 1 ((Int (pos 1)) ∷ (Int (pos 5)) ∷ []) ∷ event 1 ([]) ∷ event 1 ([]) ∷ event 1 ([]) ∷ event 1 ([]) ∷ event 1 ([]) ∷ event 1 ([]) ∷ event 1 ([]) ∷ event 1 ([]) ∷ event 1 ([]) ∷ event 1 ([]) ∷ event 1 ([]) ∷ event 1 ([]) ∷ event 1 ([]) ∷ event 1 ([]) ∷ event 2 ([]) ∷ event 3 ([]) ∷ []) start) (event 2 ([])) ≡ None
-  unfolding step act in_type same_ref put is_in inv_holds hand_over is_stable
-  narrow_18 = refl
-
-  pub narrow_19 : step_overflow program (run program (event 1 ((Int (pos 1)) ∷ (Int (pos 0)) ∷ (Refers (ref 0 0)) ∷ []) ∷ event 1 ((Int (pos 1)) ∷ (Int (pos 5)) ∷ []) ∷ event 1 ([]) ∷ event 1 ([]) ∷ event 1 ([]) ∷ event 1 ([]) ∷ event 1 ([]) ∷ event 1 ([]) ∷ event 1 ([]) ∷ event 1 ([]) ∷ event 1 ([]) ∷ event 1 ([]) ∷ event 1 ([]) ∷ event 1 ([]) ∷ event 1 ([]) ∷ event 1 ([]) ∷ event 2 ([]) ∷ event 3 ([]) ∷ event 2 ([]) ∷ []) start) (event 2 ([])) ≡ None
-  unfolding step act in_type same_ref put is_in inv_holds hand_over is_stable
-  narrow_19 = refl
-
-  pub narrow_20 : step_overflow program (run program (event 1 ((Int (pos 1)) ∷ (Int (pos 0)) ∷ (Refers (ref 0 0)) ∷ []) ∷ event 1 ((Int (pos 1)) ∷ (Int (pos 5)) ∷ []) ∷ event 1 ([]) ∷ event 1 ([]) ∷ event 1 ([]) ∷ event 1 ([]) ∷ event 1 ([]) ∷ event 1 ([]) ∷ event 1 ([]) ∷ event 1 ([]) ∷ event 1 ([]) ∷ event 1 ([]) ∷ event 1 ([]) ∷ event 1 ([]) ∷ event 1 ([]) ∷ event 1 ([]) ∷ event 2 ([]) ∷ event 3 ([]) ∷ event 2 ([]) ∷ event 2 ([]) ∷ []) start) (event 2 ([])) ≡ None
-  unfolding step act in_type same_ref put is_in inv_holds hand_over is_stable
-  narrow_20 = refl
-
-  pub narrow_21 : step_overflow program (run program (event 1 ((Int (pos 1)) ∷ (Int (pos 0)) ∷ (Refers (ref 0 0)) ∷ []) ∷ event 1 ((Int (pos 1)) ∷ (Int (pos 5)) ∷ []) ∷ event 1 ([]) ∷ event 1 ([]) ∷ event 1 ([]) ∷ event 1 ([]) ∷ event 1 ([]) ∷ event 1 ([]) ∷ event 1 ([]) ∷ event 1 ([]) ∷ event 1 ([]) ∷ event 1 ([]) ∷ event 1 ([]) ∷ event 1 ([]) ∷ event 1 ([]) ∷ event 1 ([]) ∷ event 2 ([]) ∷ event 3 ([]) ∷ event 2 ([]) ∷ event 2 ([]) ∷ event 2 ([]) ∷ []) start) (event 3 ([])) ≡ None
-  unfolding step act in_type same_ref put is_in inv_holds hand_over is_stable
-  narrow_21 = refl
-
-  pub narrow_22 : step_overflow program (run program (event 1 ((Int (pos 1)) ∷ (Int (pos 0)) ∷ (Refers (ref 0 0)) ∷ []) ∷ event 1 ((Int (pos 1)) ∷ (Int (pos 5)) ∷ []) ∷ event 1 ([]) ∷ event 1 ([]) ∷ event 1 ([]) ∷ event 1 ([]) ∷ event 1 ([]) ∷ event 1 ([]) ∷ event 1 ([]) ∷ event 1 ([]) ∷ event 1 ([]) ∷ event 1 ([]) ∷ event 1 ([]) ∷ event 1 ([]) ∷ event 1 ([]) ∷ event 1 ([]) ∷ event 2 ([]) ∷ event 3 ([]) ∷ event 2 ([]) ∷ event 2 ([]) ∷ event 2 ([]) ∷ event 3 ([]) ∷ []) start) (event 3 ([])) ≡ None
-  unfolding step act in_type same_ref put is_in inv_holds hand_over is_stable
-  narrow_22 = refl
-
-  pub narrow_23 : step_overflow program (run program (event 1 ((Int (pos 1)) ∷ (Int (pos 0)) ∷ (Refers (ref 0 0)) ∷ []) ∷ event 1 ((Int (pos 1)) ∷ (Int (pos 5)) ∷ []) ∷ event 1 ([]) ∷ event 1 ([]) ∷ event 1 ([]) ∷ event 1 ([]) ∷ event 1 ([]) ∷ event 1 ([]) ∷ event 1 ([]) ∷ event 1 ([]) ∷ event 1 ([]) ∷ event 1 ([]) ∷ event 1 ([]) ∷ event 1 ([]) ∷ event 1 ([]) ∷ event 1 ([]) ∷ event 2 ([]) ∷ event 3 ([]) ∷ event 2 ([]) ∷ event 2 ([]) ∷ event 2 ([]) ∷ event 3 ([]) ∷ event 3 ([]) ∷ []) start) (event 3 ([])) ≡ None
-  unfolding step act in_type same_ref put is_in inv_holds hand_over is_stable
-  narrow_23 = refl
-
-  pub narrow_24 : step_overflow program (run program (event 1 ((Int (pos 1)) ∷ (Int (pos 0)) ∷ (Refers (ref 0 0)) ∷ []) ∷ event 1 ((Int (pos 1)) ∷ (Int (pos 5)) ∷ []) ∷ event 1 ([]) ∷ event 1 ([]) ∷ event 1 ([]) ∷ event 1 ([]) ∷ event 1 ([]) ∷ event 1 ([]) ∷ event 1 ([]) ∷ event 1 ([]) ∷ event 1 ([]) ∷ event 1 ([]) ∷ event 1 ([]) ∷ event 1 ([]) ∷ event 1 ([]) ∷ event 1 ([]) ∷ event 2 ([]) ∷ event 3 ([]) ∷ event 2 ([]) ∷ event 2 ([]) ∷ event 2 ([]) ∷ event 3 ([]) ∷ event 3 ([]) ∷ event 3 ([]) ∷ []) start) (event 3 ([])) ≡ None
-  unfolding step act in_type same_ref put is_in inv_holds hand_over is_stable
-  narrow_24 = refl
-
-  pub narrow_25 : step_overflow program (run program (event 1 ((Int (pos 1)) ∷ (Int (pos 0)) ∷ (Refers (ref 0 0)) ∷ []) ∷ event 1 ((Int (pos 1)) ∷ (Int (pos 5)) ∷ []) ∷ event 1 ([]) ∷ event 1 ([]) ∷ event 1 ([]) ∷ event 1 ([]) ∷ event 1 ([]) ∷ event 1 ([]) ∷ event 1 ([]) ∷ event 1 ([]) ∷ event 1 ([]) ∷ event 1 ([]) ∷ event 1 ([]) ∷ event 1 ([]) ∷ event 1 ([]) ∷ event 1 ([]) ∷ event 2 ([]) ∷ event 3 ([]) ∷ event 2 ([]) ∷ event 2 ([]) ∷ event 2 ([]) ∷ event 3 ([]) ∷ event 3 ([]) ∷ event 3 ([]) ∷ event 3 ([]) ∷ []) start) (event 2 ([])) ≡ None
-  unfolding step act in_type same_ref put is_in inv_holds hand_over is_stable
-  narrow_25 = refl
-
-  pub narrow_26 : step_overflow program (run program (event 1 ((Int (pos 1)) ∷ (Int (pos 0)) ∷ (Refers (ref 0 0)) ∷ []) ∷ event 1 ((Int (pos 1)) ∷ (Int (pos 5)) ∷ []) ∷ event 1 ([]) ∷ event 1 ([]) ∷ event 1 ([]) ∷ event 1 ([]) ∷ event 1 ([]) ∷ event 1 ([]) ∷ event 1 ([]) ∷ event 1 ([]) ∷ event 1 ([]) ∷ event 1 ([]) ∷ event 1 ([]) ∷ event 1 ([]) ∷ event 1 ([]) ∷ event 1 ([]) ∷ event 2 ([]) ∷ event 3 ([]) ∷ event 2 ([]) ∷ event 2 ([]) ∷ event 2 ([]) ∷ event 3 ([]) ∷ event 3 ([]) ∷ event 3 ([]) ∷ event 3 ([]) ∷ event 2 ([]) ∷ []) start) (event 2 ([])) ≡ None
-  unfolding step act in_type same_ref put is_in inv_holds hand_over is_stable
-  narrow_26 = refl
-
-  pub narrow_27 : step_overflow program (run program (event 1 ((Int (pos 1)) ∷ (Int (pos 0)) ∷ (Refers (ref 0 0)) ∷ []) ∷ event 1 ((Int (pos 1)) ∷ (Int (pos 5)) ∷ []) ∷ event 1 ([]) ∷ event 1 ([]) ∷ event 1 ([]) ∷ event 1 ([]) ∷ event 1 ([]) ∷ event 1 ([]) ∷ event 1 ([]) ∷ event 1 ([]) ∷ event 1 ([]) ∷ event 1 ([]) ∷ event 1 ([]) ∷ event 1 ([]) ∷ event 1 ([]) ∷ event 1 ([]) ∷ event 2 ([]) ∷ event 3 ([]) ∷ event 2 ([]) ∷ event 2 ([]) ∷ event 2 ([]) ∷ event 3 ([]) ∷ event 3 ([]) ∷ event 3 ([]) ∷ event 3 ([]) ∷ event 2 ([]) ∷ event 2 ([]) ∷ []) start) (event 2 ([])) ≡ None
-  unfolding step act in_type same_ref put is_in inv_holds hand_over is_stable
-  narrow_27 = refl
-
-  pub narrow_28 : step_overflow program (run program (event 1 ((Int (pos 1)) ∷ (Int (pos 0)) ∷ (Refers (ref 0 0)) ∷ []) ∷ event 1 ((Int (pos 1)) ∷ (Int (pos 5)) ∷ []) ∷ event 1 ([]) ∷ event 1 ([]) ∷ event 1 ([]) ∷ event 1 ([]) ∷ event 1 ([]) ∷ event 1 ([]) ∷ event 1 ([]) ∷ event 1 ([]) ∷ event 1 ([]) ∷ event 1 ([]) ∷ event 1 ([]) ∷ event 1 ([]) ∷ event 1 ([]) ∷ event 1 ([]) ∷ event 2 ([]) ∷ event 3 ([]) ∷ event 2 ([]) ∷ event 2 ([]) ∷ event 2 ([]) ∷ event 3 ([]) ∷ event 3 ([]) ∷ event 3 ([]) ∷ event 3 ([]) ∷ event 2 ([]) ∷ event 2 ([]) ∷ event 2 ([]) ∷ []) start) (event 2 ([])) ≡ None
-  unfolding step act in_type same_ref put is_in inv_holds hand_over is_stable
-  narrow_28 = refl
-
-  pub narrow_29 : step_overflow program (run program (event 1 ((Int (pos 1)) ∷ (Int (pos 0)) ∷ (Refers (ref 0 0)) ∷ []) ∷ event 1 ((Int (pos 1)) ∷ (Int (pos 5)) ∷ []) ∷ event 1 ([]) ∷ event 1 ([]) ∷ event 1 ([]) ∷ event 1 ([]) ∷ event 1 ([]) ∷ event 1 ([]) ∷ event 1 ([]) ∷ event 1 ([]) ∷ event 1 ([]) ∷ event 1 ([]) ∷ event 1 ([]) ∷ event 1 ([]) ∷ event 1 ([]) ∷ event 1 ([]) ∷ event 2 ([]) ∷ event 3 ([]) ∷ event 2 ([]) ∷ event 2 ([]) ∷ event 2 ([]) ∷ event 3 ([]) ∷ event 3 ([]) ∷ event 3 ([]) ∷ event 3 ([]) ∷ event 2 ([]) ∷ event 2 ([]) ∷ event 2 ([]) ∷ event 2 ([]) ∷ []) start) (event 2 ([])) ≡ None
-  unfolding step act in_type same_ref put is_in inv_holds hand_over is_stable
-  narrow_29 = refl
-
-  pub narrow_30 : step_overflow program (run program (event 1 ((Int (pos 1)) ∷ (Int (pos 0)) ∷ (Refers (ref 0 0)) ∷ []) ∷ event 1 ((Int (pos 1)) ∷ (Int (pos 5)) ∷ []) ∷ event 1 ([]) ∷ event 1 ([]) ∷ event 1 ([]) ∷ event 1 ([]) ∷ event 1 ([]) ∷ event 1 ([]) ∷ event 1 ([]) ∷ event 1 ([]) ∷ event 1 ([]) ∷ event 1 ([]) ∷ event 1 ([]) ∷ event 1 ([]) ∷ event 1 ([]) ∷ event 1 ([]) ∷ event 2 ([]) ∷ event 3 ([]) ∷ event 2 ([]) ∷ event 2 ([]) ∷ event 2 ([]) ∷ event 3 ([]) ∷ event 3 ([]) ∷ event 3 ([]) ∷ event 3 ([]) ∷ event 2 ([]) ∷ event 2 ([]) ∷ event 2 ([]) ∷ event 2 ([]) ∷ event 2 ([]) ∷ []) start) (event 2 ([])) ≡ None
-  unfolding step act in_type same_ref put is_in inv_holds hand_over is_stable
-  narrow_30 = refl
-
-  pub narrow_31 : step_overflow program (run program (event 1 ((Int (pos 1)) ∷ (Int (pos 0)) ∷ (Refers (ref 0 0)) ∷ []) ∷ event 1 ((Int (pos 1)) ∷ (Int (pos 5)) ∷ []) ∷ event 1 ([]) ∷ event 1 ([]) ∷ event 1 ([]) ∷ event 1 ([]) ∷ event 1 ([]) ∷ event 1 ([]) ∷ event 1 ([]) ∷ event 1 ([]) ∷ event 1 ([]) ∷ event 1 ([]) ∷ event 1 ([]) ∷ event 1 ([]) ∷ event 1 ([]) ∷ event 1 ([]) ∷ event 2 ([]) ∷ event 3 ([]) ∷ event 2 ([]) ∷ event 2 ([]) ∷ event 2 ([]) ∷ event 3 ([]) ∷ event 3 ([]) ∷ event 3 ([]) ∷ event 3 ([]) ∷ event 2 ([]) ∷ event 2 ([]) ∷ event 2 ([]) ∷ event 2 ([]) ∷ event 2 ([]) ∷ event 2 ([]) ∷ []) start) (event 2 ([])) ≡ None
-  unfolding step act in_type same_ref put is_in inv_holds hand_over is_stable
-  narrow_31 = refl
-
-  pub narrow_32 : step_overflow program (run program (event 1 ((Int (pos 1)) ∷ (Int (pos 0)) ∷ (Refers (ref 0 0)) ∷ []) ∷ event 1 ((Int (pos 1)) ∷ (Int (pos 5)) ∷ []) ∷ event 1 ([]) ∷ event 1 ([]) ∷ event 1 ([]) ∷ event 1 ([]) ∷ event 1 ([]) ∷ event 1 ([]) ∷ event 1 ([]) ∷ event 1 ([]) ∷ event 1 ([]) ∷ event 1 ([]) ∷ event 1 ([]) ∷ event 1 ([]) ∷ event 1 ([]) ∷ event 1 ([]) ∷ event 2 ([]) ∷ event 3 ([]) ∷ event 2 ([]) ∷ event 2 ([]) ∷ event 2 ([]) ∷ event 3 ([]) ∷ event 3 ([]) ∷ event 3 ([]) ∷ event 3 ([]) ∷ event 2 ([]) ∷ event 2 ([]) ∷ event 2 ([]) ∷ event 2 ([]) ∷ event 2 ([]) ∷ event 2 ([]) ∷ event 2 ([]) ∷ []) start) (event 2 ([])) ≡ None
-  unfolding step act in_type same_ref put is_in inv_holds hand_over is_stable
-  narrow_32 = refl
-
-  pub narrow_33 : step_overflow program (run program (event 1 ((Int (pos 1)) ∷ (Int (pos 0)) ∷ (Refers (ref 0 0)) ∷ []) ∷ event 1 ((Int (pos 1)) ∷ (Int (pos 5)) ∷ []) ∷ event 1 ([]) ∷ event 1 ([]) ∷ event 1 ([]) ∷ event 1 ([]) ∷ event 1 ([]) ∷ event 1 ([]) ∷ event 1 ([]) ∷ event 1 ([]) ∷ event 1 ([]) ∷ event 1 ([]) ∷ event 1 ([]) ∷ event 1 ([]) ∷ event 1 ([]) ∷ event 1 ([]) ∷ event 2 ([]) ∷ event 3 ([]) ∷ event 2 ([]) ∷ event 2 ([]) ∷ event 2 ([]) ∷ event 3 ([]) ∷ event 3 ([]) ∷ event 3 ([]) ∷ event 3 ([]) ∷ event 2 ([]) ∷ event 2 ([]) ∷ event 2 ([]) ∷ event 2 ([]) ∷ event 2 ([]) ∷ event 2 ([]) ∷ event 2 ([]) ∷ event 2 ([]) ∷ []) start) (event 2 ([])) ≡ None
-  unfolding step act in_type same_ref put is_in inv_holds hand_over is_stable
-  narrow_33 = refl
-
-  pub narrow_34 : step_overflow program (run program (event 1 ((Int (pos 1)) ∷ (Int (pos 0)) ∷ (Refers (ref 0 0)) ∷ []) ∷ event 1 ((Int (pos 1)) ∷ (Int (pos 5)) ∷ []) ∷ event 1 ([]) ∷ event 1 ([]) ∷ event 1 ([]) ∷ event 1 ([]) ∷ event 1 ([]) ∷ event 1 ([]) ∷ event 1 ([]) ∷ event 1 ([]) ∷ event 1 ([]) ∷ event 1 ([]) ∷ event 1 ([]) ∷ event 1 ([]) ∷ event 1 ([]) ∷ event 1 ([]) ∷ event 2 ([]) ∷ event 3 ([]) ∷ event 2 ([]) ∷ event 2 ([]) ∷ event 2 ([]) ∷ event 3 ([]) ∷ event 3 ([]) ∷ event 3 ([]) ∷ event 3 ([]) ∷ event 2 ([]) ∷ event 2 ([]) ∷ event 2 ([]) ∷ event 2 ([]) ∷ event 2 ([]) ∷ event 2 ([]) ∷ event 2 ([]) ∷ event 2 ([]) ∷ event 2 ([]) ∷ []) start) (event 3 ([])) ≡ None
-  unfolding step act in_type same_ref put is_in inv_holds hand_over is_stable
-  narrow_34 = refl
-
-  pub narrow_35 : step_overflow program (run program (event 1 ((Int (pos 1)) ∷ (Int (pos 0)) ∷ (Refers (ref 0 0)) ∷ []) ∷ event 1 ((Int (pos 1)) ∷ (Int (pos 5)) ∷ []) ∷ event 1 ([]) ∷ event 1 ([]) ∷ event 1 ([]) ∷ event 1 ([]) ∷ event 1 ([]) ∷ event 1 ([]) ∷ event 1 ([]) ∷ event 1 ([]) ∷ event 1 ([]) ∷ event 1 ([]) ∷ event 1 ([]) ∷ event 1 ([]) ∷ event 1 ([]) ∷ event 1 ([]) ∷ event 2 ([]) ∷ event 3 ([]) ∷ event 2 ([]) ∷ event 2 ([]) ∷ event 2 ([]) ∷ event 3 ([]) ∷ event 3 ([]) ∷ event 3 ([]) ∷ event 3 ([]) ∷ event 2 ([]) ∷ event 2 ([]) ∷ event 2 ([]) ∷ event 2 ([]) ∷ event 2 ([]) ∷ event 2 ([]) ∷ event 2 ([]) ∷ event 2 ([]) ∷ event 2 ([]) ∷ event 3 ([]) ∷ []) start) (event 3 ([])) ≡ None
-  unfolding step act in_type same_ref put is_in inv_holds hand_over is_stable
-  narrow_35 = refl
-
-  pub narrow_36 : step_overflow program (run program (event 1 ((Int (pos 1)) ∷ (Int (pos 0)) ∷ (Refers (ref 0 0)) ∷ []) ∷ event 1 ((Int (pos 1)) ∷ (Int (pos 5)) ∷ []) ∷ event 1 ([]) ∷ event 1 ([]) ∷ event 1 ([]) ∷ event 1 ([]) ∷ event 1 ([]) ∷ event 1 ([]) ∷ event 1 ([]) ∷ event 1 ([]) ∷ event 1 ([]) ∷ event 1 ([]) ∷ event 1 ([]) ∷ event 1 ([]) ∷ event 1 ([]) ∷ event 1 ([]) ∷ event 2 ([]) ∷ event 3 ([]) ∷ event 2 ([]) ∷ event 2 ([]) ∷ event 2 ([]) ∷ event 3 ([]) ∷ event 3 ([]) ∷ event 3 ([]) ∷ event 3 ([]) ∷ event 2 ([]) ∷ event 2 ([]) ∷ event 2 ([]) ∷ event 2 ([]) ∷ event 2 ([]) ∷ event 2 ([]) ∷ event 2 ([]) ∷ event 2 ([]) ∷ event 2 ([]) ∷ event 3 ([]) ∷ event 3 ([]) ∷ []) start) (event 3 ([])) ≡ None
-  unfolding step act in_type same_ref put is_in inv_holds hand_over is_stable
-  narrow_36 = refl
-
-  pub narrow_37 : step_overflow program (run program (event 1 ((Int (pos 1)) ∷ (Int (pos 0)) ∷ (Refers (ref 0 0)) ∷ []) ∷ event 1 ((Int (pos 1)) ∷ (Int (pos 5)) ∷ []) ∷ event 1 ([]) ∷ event 1 ([]) ∷ event 1 ([]) ∷ event 1 ([]) ∷ event 1 ([]) ∷ event 1 ([]) ∷ event 1 ([]) ∷ event 1 ([]) ∷ event 1 ([]) ∷ event 1 ([]) ∷ event 1 ([]) ∷ event 1 ([]) ∷ event 1 ([]) ∷ event 1 ([]) ∷ event 2 ([]) ∷ event 3 ([]) ∷ event 2 ([]) ∷ event 2 ([]) ∷ event 2 ([]) ∷ event 3 ([]) ∷ event 3 ([]) ∷ event 3 ([]) ∷ event 3 ([]) ∷ event 2 ([]) ∷ event 2 ([]) ∷ event 2 ([]) ∷ event 2 ([]) ∷ event 2 ([]) ∷ event 2 ([]) ∷ event 2 ([]) ∷ event 2 ([]) ∷ event 2 ([]) ∷ event 3 ([]) ∷ event 3 ([]) ∷ event 3 ([]) ∷ []) start) (event 3 ([])) ≡ None
-  unfolding step act in_type same_ref put is_in inv_holds hand_over is_stable
-  narrow_37 = refl
-
-  pub narrow_38 : step_overflow program (run program (event 1 ((Int (pos 1)) ∷ (Int (pos 0)) ∷ (Refers (ref 0 0)) ∷ []) ∷ event 1 ((Int (pos 1)) ∷ (Int (pos 5)) ∷ []) ∷ event 1 ([]) ∷ event 1 ([]) ∷ event 1 ([]) ∷ event 1 ([]) ∷ event 1 ([]) ∷ event 1 ([]) ∷ event 1 ([]) ∷ event 1 ([]) ∷ event 1 ([]) ∷ event 1 ([]) ∷ event 1 ([]) ∷ event 1 ([]) ∷ event 1 ([]) ∷ event 1 ([]) ∷ event 2 ([]) ∷ event 3 ([]) ∷ event 2 ([]) ∷ event 2 ([]) ∷ event 2 ([]) ∷ event 3 ([]) ∷ event 3 ([]) ∷ event 3 ([]) ∷ event 3 ([]) ∷ event 2 ([]) ∷ event 2 ([]) ∷ event 2 ([]) ∷ event 2 ([]) ∷ event 2 ([]) ∷ event 2 ([]) ∷ event 2 ([]) ∷ event 2 ([]) ∷ event 2 ([]) ∷ event 3 ([]) ∷ event 3 ([]) ∷ event 3 ([]) ∷ event 3 ([]) ∷ []) start) (event 3 ([])) ≡ None
-  unfolding step act in_type same_ref put is_in inv_holds hand_over is_stable
-  narrow_38 = refl
-
-  pub narrow_39 : step_overflow program (run program (event 1 ((Int (pos 1)) ∷ (Int (pos 0)) ∷ (Refers (ref 0 0)) ∷ []) ∷ event 1 ((Int (pos 1)) ∷ (Int (pos 5)) ∷ []) ∷ event 1 ([]) ∷ event 1 ([]) ∷ event 1 ([]) ∷ event 1 ([]) ∷ event 1 ([]) ∷ event 1 ([]) ∷ event 1 ([]) ∷ event 1 ([]) ∷ event 1 ([]) ∷ event 1 ([]) ∷ event 1 ([]) ∷ event 1 ([]) ∷ event 1 ([]) ∷ event 1 ([]) ∷ event 2 ([]) ∷ event 3 ([]) ∷ event 2 ([]) ∷ event 2 ([]) ∷ event 2 ([]) ∷ event 3 ([]) ∷ event 3 ([]) ∷ event 3 ([]) ∷ event 3 ([]) ∷ event 2 ([]) ∷ event 2 ([]) ∷ event 2 ([]) ∷ event 2 ([]) ∷ event 2 ([]) ∷ event 2 ([]) ∷ event 2 ([]) ∷ event 2 ([]) ∷ event 2 ([]) ∷ event 3 ([]) ∷ event 3 ([]) ∷ event 3 ([]) ∷ event 3 ([]) ∷ event 3 ([]) ∷ []) start) (event 3 ([])) ≡ None
-  unfolding step act in_type same_ref put is_in inv_holds hand_over is_stable
-  narrow_39 = refl
-
-  pub narrow_40 : step_overflow program (run program (event 1 ((Int (pos 1)) ∷ (Int (pos 0)) ∷ (Refers (ref 0 0)) ∷ []) ∷ event 1 ((Int (pos 1)) ∷ (Int (pos 5)) ∷ []) ∷ event 1 ([]) ∷ event 1 ([]) ∷ event 1 ([]) ∷ event 1 ([]) ∷ event 1 ([]) ∷ event 1 ([]) ∷ event 1 ([]) ∷ event 1 ([]) ∷ event 1 ([]) ∷ event 1 ([]) ∷ event 1 ([]) ∷ event 1 ([]) ∷ event 1 ([]) ∷ event 1 ([]) ∷ event 2 ([]) ∷ event 3 ([]) ∷ event 2 ([]) ∷ event 2 ([]) ∷ event 2 ([]) ∷ event 3 ([]) ∷ event 3 ([]) ∷ event 3 ([]) ∷ event 3 ([]) ∷ event 2 ([]) ∷ event 2 ([]) ∷ event 2 ([]) ∷ event 2 ([]) ∷ event 2 ([]) ∷ event 2 ([]) ∷ event 2 ([]) ∷ event 2 ([]) ∷ event 2 ([]) ∷ event 3 ([]) ∷ event 3 ([]) ∷ event 3 ([]) ∷ event 3 ([]) ∷ event 3 ([]) ∷ event 3 ([]) ∷ []) start) (event 3 ([])) ≡ None
-  unfolding step act in_type same_ref put is_in inv_holds hand_over is_stable
-  narrow_40 = refl
-
-  pub narrow_41 : step_overflow program (run program (event 1 ((Int (pos 1)) ∷ (Int (pos 0)) ∷ (Refers (ref 0 0)) ∷ []) ∷ event 1 ((Int (pos 1)) ∷ (Int (pos 5)) ∷ []) ∷ event 1 ([]) ∷ event 1 ([]) ∷ event 1 ([]) ∷ event 1 ([]) ∷ event 1 ([]) ∷ event 1 ([]) ∷ event 1 ([]) ∷ event 1 ([]) ∷ event 1 ([]) ∷ event 1 ([]) ∷ event 1 ([]) ∷ event 1 ([]) ∷ event 1 ([]) ∷ event 1 ([]) ∷ event 2 ([]) ∷ event 3 ([]) ∷ event 2 ([]) ∷ event 2 ([]) ∷ event 2 ([]) ∷ event 3 ([]) ∷ event 3 ([]) ∷ event 3 ([]) ∷ event 3 ([]) ∷ event 2 ([]) ∷ event 2 ([]) ∷ event 2 ([]) ∷ event 2 ([]) ∷ event 2 ([]) ∷ event 2 ([]) ∷ event 2 ([]) ∷ event 2 ([]) ∷ event 2 ([]) ∷ event 3 ([]) ∷ event 3 ([]) ∷ event 3 ([]) ∷ event 3 ([]) ∷ event 3 ([]) ∷ event 3 ([]) ∷ event 3 ([]) ∷ []) start) (event 3 ([])) ≡ None
-  unfolding step act in_type same_ref put is_in inv_holds hand_over is_stable
-  narrow_41 = refl
-
-  pub narrow_42 : step_overflow program (run program (event 1 ((Int (pos 1)) ∷ (Int (pos 0)) ∷ (Refers (ref 0 0)) ∷ []) ∷ event 1 ((Int (pos 1)) ∷ (Int (pos 5)) ∷ []) ∷ event 1 ([]) ∷ event 1 ([]) ∷ event 1 ([]) ∷ event 1 ([]) ∷ event 1 ([]) ∷ event 1 ([]) ∷ event 1 ([]) ∷ event 1 ([]) ∷ event 1 ([]) ∷ event 1 ([]) ∷ event 1 ([]) ∷ event 1 ([]) ∷ event 1 ([]) ∷ event 1 ([]) ∷ event 2 ([]) ∷ event 3 ([]) ∷ event 2 ([]) ∷ event 2 ([]) ∷ event 2 ([]) ∷ event 3 ([]) ∷ event 3 ([]) ∷ event 3 ([]) ∷ event 3 ([]) ∷ event 2 ([]) ∷ event 2 ([]) ∷ event 2 ([]) ∷ event 2 ([]) ∷ event 2 ([]) ∷ event 2 ([]) ∷ event 2 ([]) ∷ event 2 ([]) ∷ event 2 ([]) ∷ event 3 ([]) ∷ event 3 ([]) ∷ event 3 ([]) ∷ event 3 ([]) ∷ event 3 ([]) ∷ event 3 ([]) ∷ event 3 ([]) ∷ event 3 ([]) ∷ []) start) (event 3 ([])) ≡ None
-  unfolding step act in_type same_ref put is_in inv_holds hand_over is_stable
-  narrow_42 = refl
-
-  pub narrow_43 : step_overflow program (run program (event 1 ((Int (pos 1)) ∷ (Int (pos 0)) ∷ (Refers (ref 0 0)) ∷ []) ∷ event 1 ((Int (pos 1)) ∷ (Int (pos 5)) ∷ []) ∷ event 1 ([]) ∷ event 1 ([]) ∷ event 1 ([]) ∷ event 1 ([]) ∷ event 1 ([]) ∷ event 1 ([]) ∷ event 1 ([]) ∷ event 1 ([]) ∷ event 1 ([]) ∷ event 1 ([]) ∷ event 1 ([]) ∷ event 1 ([]) ∷ event 1 ([]) ∷ event 1 ([]) ∷ event 2 ([]) ∷ event 3 ([]) ∷ event 2 ([]) ∷ event 2 ([]) ∷ event 2 ([]) ∷ event 3 ([]) ∷ event 3 ([]) ∷ event 3 ([]) ∷ event 3 ([]) ∷ event 2 ([]) ∷ event 2 ([]) ∷ event 2 ([]) ∷ event 2 ([]) ∷ event 2 ([]) ∷ event 2 ([]) ∷ event 2 ([]) ∷ event 2 ([]) ∷ event 2 ([]) ∷ event 3 ([]) ∷ event 3 ([]) ∷ event 3 ([]) ∷ event 3 ([]) ∷ event 3 ([]) ∷ event 3 ([]) ∷ event 3 ([]) ∷ event 3 ([]) ∷ event 3 ([]) ∷ []) start) (event 3 ([])) ≡ None
-  unfolding step act in_type same_ref put is_in inv_holds hand_over is_stable
-  narrow_43 = refl
-
-  pub narrow_44 : step_overflow program (run program (event 1 ((Int (pos 1)) ∷ (Int (pos 0)) ∷ (Refers (ref 0 0)) ∷ []) ∷ event 1 ((Int (pos 1)) ∷ (Int (pos 5)) ∷ []) ∷ event 1 ([]) ∷ event 1 ([]) ∷ event 1 ([]) ∷ event 1 ([]) ∷ event 1 ([]) ∷ event 1 ([]) ∷ event 1 ([]) ∷ event 1 ([]) ∷ event 1 ([]) ∷ event 1 ([]) ∷ event 1 ([]) ∷ event 1 ([]) ∷ event 1 ([]) ∷ event 1 ([]) ∷ event 2 ([]) ∷ event 3 ([]) ∷ event 2 ([]) ∷ event 2 ([]) ∷ event 2 ([]) ∷ event 3 ([]) ∷ event 3 ([]) ∷ event 3 ([]) ∷ event 3 ([]) ∷ event 2 ([]) ∷ event 2 ([]) ∷ event 2 ([]) ∷ event 2 ([]) ∷ event 2 ([]) ∷ event 2 ([]) ∷ event 2 ([]) ∷ event 2 ([]) ∷ event 2 ([]) ∷ event 3 ([]) ∷ event 3 ([]) ∷ event 3 ([]) ∷ event 3 ([]) ∷ event 3 ([]) ∷ event 3 ([]) ∷ event 3 ([]) ∷ event 3 ([]) ∷ event 3 ([]) ∷ event 3 ([]) ∷ []) start) (event 3 ([])) ≡ None
-  unfolding step act in_type same_ref put is_in inv_holds hand_over is_stable
-  narrow_44 = refl
+  pub narrow : run_overflow program events start ≡ None
+  unfolding step act in_type same_ref put is_in inv_holds hand_over in_stable_set
+  narrow = refl
 
   abbrev pub end : Heap
   end = (run program events start).heap
@@ -315,7 +140,7 @@ module _ (m : Memory) where
   looks = (look program end (ref 2 1) ([]) ∷ look program end (ref 2 2) ([]) ∷ look program end (ref 3 1) (0 ∷ []) ∷ look program end (ref 4 1) (1 ∷ 2 ∷ []) ∷ [])
 
   pub leaves : looks ≡ seen 2 1 IsClosed (ref 1 2) (pos 0) ([]) (ref 4 1 ∷ []) ([]) (record { shape = 0; values = ([]) } ∷ []) ∷ seen 2 2 IsClosed (ref 1 3) (pos 0) ([]) (ref 4 1 ∷ []) ([]) (record { shape = 0; values = ([]) } ∷ []) ∷ seen 3 1 IsClosed (ref 4 1) (pos 0) ([]) ([]) ((Int (pos 1)) ∷ []) ([]) ∷ seen 4 1 IsClosed (ref 1 1) (pos 2) (ref 3 1 ∷ []) ([]) ((Int (pos 0)) ∷ (Refers (ref 3 1)) ∷ []) ([]) ∷ []
-  unfolding step act in_type same_ref put is_in inv_holds hand_over is_stable
+  unfolding step act in_type same_ref put is_in inv_holds hand_over in_stable_set
   leaves = refl
 
   pub typed : every (λ s. every of_content s.invariants.items && every of_content s.mine.items) program.structs.items && (every (λ s. is_conjunct s.conjunct) program.shapes.items && every (λ s. site_ok program (slice_get program.functions.items s.function) s) program.sites.items) ≡ true
@@ -365,3 +190,10 @@ module _ (m : Memory) where
 
   pub checks_main : body_checks program fn_main body_main ≡ 22
   checks_main = refl
+
+  -- Data and Lock have two labels each, InitializeLock eleven
+  pub acquire_owns : slice_get (program_labels program) 22 ≡ Some (record { item = Function 1; ordinal = 8; check = label Owns 29 })
+  acquire_owns = refl
+
+  pub all_labels : length (program_labels program) ≡ 71
+  all_labels = refl

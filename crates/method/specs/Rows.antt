@@ -14,14 +14,15 @@ use Rattle.method.specs.declared.program.Hole.TheVariants.{OfVariable}
 use Rattle.method.specs.declared.program.Spec.{Spec}
 use Rattle.method.specs.declared.program.Spec.TheVariants.{Number as Number', Variable as Variable', This, Field' as Field'', Compare' as Compare'', Old', Wrapped'}
 use Rattle.method.specs.declared.program.Target.TheVariants.{Local, FieldOf}
-use Rattle.method.specs.declared.program.Right.TheVariants.{Compute, Malloc, NewClaim}
+use Rattle.method.specs.declared.program.RightSide.TheVariants.{Compute, Malloc, NewClaim}
 use Rattle.method.specs.declared.program.Simple.TheVariants.{Assign}
 use Rattle.method.specs.declared.program.Inner.{Inner}
 use Rattle.method.specs.declared.program.Inner.TheVariants.{Inside}
-use Rattle.method.specs.declared.program.Action.TheVariants.{Simply, Declare, Define, Say, Atomic}
+use Rattle.method.specs.declared.program.Action.TheVariants.{Simply, Declare, Define, AssertSpec, Atomic}
 use Rattle.method.specs.declared.program.Claimed.TheVariants.{ClaimedVariable}
 use Rattle.method.specs.declared.program.Stmt.{Stmt, end_of-Stmt, more_of-Stmt}
 use Rattle.method.specs.declared.program.Stmt.TheVariants.{Do, If'}
+use Rattle.method.specs.declared.program.Item.TheVariants.{Struct, Function}
 use Rattle.method.specs.declared.program.FunctionInfo.{FunctionInfo}
 use Rattle.method.specs.declared.program.Program.{Program}
 use Rattle.object_types.specs.declared.records.Mode.TheVariants.{Open, Closed}
@@ -29,9 +30,9 @@ use Rattle.object_types.specs.References.{ref, thread, same_ref}
 use Rattle.object_types.specs.Sets.{is_in}
 use Rattle.object_types.specs.Heap.{Heap, empty_heap, put, hand_over, nothing, with_field}
 use Rattle.method.specs.Tables.{read, in_type}
-use Rattle.method.specs.Method.{inv_holds}
-use Rattle.method.specs.Walk.{body_checks}
-use Rattle.method.specs.Acts.{act}
+use Rattle.method.specs.Invariants.{inv_holds}
+use Rattle.method.specs.Text.{body_checks}
+use Rattle.method.specs.Actions.{act}
 use Rattle.method.specs.Machine.{State, Event, step, run}
 use Rattle.method.specs.Trace.{Memory, vec, box, Said, Line, Fails, Waits, trace, event, state_of}
 
@@ -48,7 +49,7 @@ module _ (m : Memory) where
   write_seven = Do 4 (Simply (Assign (FieldOf (Variable 0) 0) (Compute (Number (pos 7)))))
 
   abbrev pub say_seven : Stmt
-  say_seven = Do 5 (Say (Compare'' Equal (box m) (Field'' (box m) (Variable' 0) 0) (box m) (Number' (pos 7))))
+  say_seven = Do 5 (AssertSpec (Compare'' Equal (box m) (Field'' (box m) (Variable' 0) 0) (box m) (Number' (pos 7))))
 
   abbrev pub main_one : FunctionInfo
   main_one = record {
@@ -70,6 +71,7 @@ module _ (m : Memory) where
     functions = vec m (main_one ∷ []);
     sites = vec m [];
     shapes = vec m [];
+    items = vec m (Struct 0 ∷ Function 0 ∷ []);
     main = 0;
   }
 
@@ -110,7 +112,7 @@ module _ (m : Memory) where
   block = Inside 5 (Assign (Local 1) (Compute (Field' (box m) (Variable 0) 0))) ∷ Inside 6 (Assign (Local 2) (NewClaim 0)) ∷ []
 
   abbrev pub body_two : List Stmt
-  body_two = Do 3 (Define 1 (Compute (Number (pos 0)))) ∷ Do 4 (Declare 2) ∷ Do 5 (Atomic (vec m (record { object = Variable 0; is_claim = false } ∷ [])) (vec m block)) ∷ Do 7 (Say at_least) ∷ []
+  body_two = Do 3 (Define 1 (Compute (Number (pos 0)))) ∷ Do 4 (Declare 2) ∷ Do 5 (Atomic (vec m (record { object = Variable 0; is_claim = false } ∷ [])) (vec m block)) ∷ Do 7 (AssertSpec at_least) ∷ []
 
   abbrev pub main_two : FunctionInfo
   main_two = record {
@@ -130,8 +132,9 @@ module _ (m : Memory) where
     structs = vec m (record { name = m.text; line = 1; is_claimable = true; has_dynamic_owns = false; has_volatile_owns = false; first_field = 0; fields = 1; invariants = vec m (ctr_invariant ∷ []); mine = vec m [] } ∷ []);
     fields = vec m (record { name = m.text; of = 3; ty = Integer SignedInt; is_volatile = true; is_ghost = false } ∷ []);
     functions = vec m (main_two ∷ []);
-    sites = vec m (record { function = 0; line = 6; variables = vec m (0 ∷ 1 ∷ []); claimed = vec m (ClaimedVariable 0 ∷ []); parts = vec m (record { shape = 0; holes = vec m (OfVariable 0 ∷ OfVariable 1 ∷ []) } ∷ []) } ∷ []);
+    sites = vec m (record { function = 0; line = 6; variables = vec m (0 ∷ 1 ∷ []); claimed = vec m (ClaimedVariable 0 ∷ []); conjuncts = vec m (record { shape = 0; holes = vec m (OfVariable 0 ∷ OfVariable 1 ∷ []) } ∷ []) } ∷ []);
     shapes = vec m (record { holes = vec m (RefSort ∷ IntSort ∷ []); conjunct = at_least } ∷ []);
+    items = vec m (Struct 0 ∷ Function 0 ∷ []);
     main = 0;
   }
 
@@ -192,6 +195,7 @@ module _ (m : Memory) (writes : List Spec) where
     functions = vec m (main_three ∷ []);
     sites = vec m [];
     shapes = vec m [];
+    items = vec m (Struct 0 ∷ Function 0 ∷ []);
     main = 0;
   }
 

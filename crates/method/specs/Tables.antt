@@ -11,7 +11,7 @@ use Rattle.method.specs.declared.program.StructInfo.{StructInfo}
 use Rattle.method.specs.declared.program.FunctionInfo.{FunctionInfo}
 use Rattle.method.specs.declared.program.VariableInfo.{VariableInfo}
 use Rattle.method.specs.declared.program.Program.{Program}
-use Rattle.object_types.specs.References.{null, is_null, is_thread, is_claim}
+use Rattle.object_types.specs.References.{null, is_null, is_thread, is_claim, is_reference}
 use Rattle.object_types.specs.Values.{or_zero}
 use Rattle.object_types.specs.Heap.{Heap}
 
@@ -27,7 +27,7 @@ in_type Object (Int z) = false
 in_type Claim (Int z) = false
 in_type (Integer c) (Refers r) = false
 in_type (Pointer n) (Refers r) = is_null r || (r.ty == n)
-in_type Object (Refers r) = not (is_thread r)
+in_type Object (Refers r) = is_reference r && not (is_thread r)
 in_type Claim (Refers r) = is_null r || is_claim r
 
 abbrev pub zero_of : DeclaredType → Value

@@ -13,11 +13,11 @@ use Rattle.object_types.specs.declared.shapes.Entry.{Entry}
 use Rattle.object_types.specs.References.{thread}
 use Rattle.object_types.specs.Heap.{Heap}
 use Rattle.method.specs.Tables.{read}
-use Rattle.method.specs.Code.{End, Misfit, Failed, Gave}
-use Rattle.method.specs.Acts.{Fresh}
-use Rattle.method.specs.Walk.{stmt_checks, body_checks}
+use Rattle.method.specs.Expressions.{End, Misfit, Failed, Gave}
+use Rattle.method.specs.Actions.{Fresh}
+use Rattle.method.specs.Text.{stmt_checks, body_checks}
 use Rattle.method.specs.Labels.{Label}
-use Rattle.method.specs.Machine.{Todo, Run, Test, CloseAgain, Receive, Activation, Turn, thread_turn, frames_of, next_number, State, Event, Answer, NotEnabled, Faulted, Next, step, left_by, begin, callee}
+use Rattle.method.specs.Machine.{Remaining, Run, Test, WrapAgain, Receive, Activation, Turn, thread_turn, frames_of, next_number, State, Event, Answer, NotEnabled, Faulted, Next, step, left_by, begin, callee}
 
 -- any memory that boxes, vectors and texts may lie in
 pub record Memory : Type 1 where
@@ -64,11 +64,11 @@ look p h o fs = seen o.ty o.serial (h.get o).mode (h.get o).owner (h.get o).coun
 abbrev pub label : CheckKind → ℕ → Label
 label kind line = record { kind = kind; line = line }
 
-abbrev pub left_checks : Program → FunctionInfo → List Todo → ℕ
+abbrev pub left_checks : Program → FunctionInfo → List Remaining → ℕ
 left_checks p f [] = 0
 left_checks p f (Run s ∷ code) = stmt_checks p f s + left_checks p f code
 left_checks p f (Test line e s ∷ code) = left_checks p f code
-left_checks p f (CloseAgain line ty o ∷ code) = left_checks p f code
+left_checks p f (WrapAgain line ty o ∷ code) = left_checks p f code
 left_checks p f (Receive line place c ∷ code) = left_checks p f code
 
 abbrev pub left_of : Program → FunctionInfo → List Activation → ℕ

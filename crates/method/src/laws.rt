@@ -1,7 +1,7 @@
 //! The laws, as contracts of functions that do nothing.
 
-ghost use Rattle.method.specs.Law.{RelyComposes};
-ghost use Rattle.method.specs.Method.{GlobalLaw};
+ghost use Rattle.method.specs.Rely.{RelyComposes};
+ghost use Rattle.method.specs.Admissible.{GlobalLaw};
 
 /// Legal steps keep every invariant.
 pub fn global_law()

@@ -96,7 +96,7 @@ pub enum Hole {
 
 /// A conjunct of a claim's property: a shape, and what fills its holes.
 #[derive(Drop)]
-pub struct Part {
+pub struct Conjunct {
     pub shape: u32,
     pub holes: Vec<Hole>,
 }
@@ -138,7 +138,7 @@ pub enum Spec {
     /// the conjunct `o->\closed`
     Lists(Box<Spec>),
     /// any other conjunct
-    Has(Part),
+    Has(Conjunct),
     /// formula number, declared type, the object whose members it ranges over, what holds of each
     ForAll(u32, DeclaredType, Box<Spec>, Box<Spec>),
     /// formula number, declared type, the object whose members it ranges over, the conjuncts behind the membership
@@ -165,36 +165,36 @@ pub enum Operation {
 /// What becomes of an Interlocked call's value: a conversion, or a conversion, `==` (or `!=`), the right operand and
 /// the conversion of the truth value.
 #[derive(Drop)]
-pub enum Afterwards {
+pub enum InterlockedResult {
     Plainly(Option<CType>),
     Compared(Option<CType>, bool, Expr, Option<CType>),
 }
 
 /// What stands right of `=`, but for a call of a function.
 #[derive(Drop)]
-pub enum Right {
+pub enum RightSide {
     Compute(Expr),
     /// the struct's type number
     Malloc(u32),
     /// the claim site
     NewClaim(u32),
     /// object, field, operation
-    Interlocked(Expr, u32, Operation, Afterwards),
+    Interlocked(Expr, u32, Operation, InterlockedResult),
 }
 
 /// `=`, `+=` or `-=` behind `\owns`.
 #[derive(Clone, Copy, Debug, PartialEq, Eq)]
-pub enum Change {
-    Becomes,
-    Gains,
-    Loses,
+pub enum OwnsChange {
+    Assigned,
+    Added,
+    Removed,
 }
 
 /// A statement that may also stand inside an atomic block.
 #[derive(Drop)]
 pub enum Simple {
-    Assign(Target, Right),
-    ChangeOwned(Change, Expr, Vec<Expr>),
+    Assign(Target, RightSide),
+    ChangeOwned(OwnsChange, Expr, Vec<Expr>),
     /// the formula's number, the claim, its objects
     EndClaim(u32, Expr, Vec<Expr>),
 }
@@ -220,13 +220,13 @@ pub enum Action {
     /// a declaration without first value
     Declare(u32),
     /// a declaration with one
-    Define(u32, Right),
+    Define(u32, RightSide),
     /// the struct's type number, the number of the members' formula, the object
-    Close(u32, u32, Expr),
-    Open(Expr),
-    Say(Spec),
-    Release(Expr),
-    Start(u32, Vec<Expr>),
+    WrapObject(u32, u32, Expr),
+    UnwrapObject(Expr),
+    AssertSpec(Spec),
+    FreeObject(Expr),
+    SpawnThread(u32, Vec<Expr>),
     Atomic(Vec<Listed>, Vec<Inner>),
 }
 
@@ -322,12 +322,12 @@ pub enum Claimed {
 /// A `\make_claim`: its function, its line, the variables that it names in order of
 /// declaration, the claimed expressions and the conjuncts of the property.
 #[derive(Drop)]
-pub struct Site {
+pub struct ClaimSite {
     pub function: u32,
     pub line: u32,
     pub variables: Vec<u32>,
     pub claimed: Vec<Claimed>,
-    pub parts: Vec<Part>,
+    pub conjuncts: Vec<Conjunct>,
 }
 
 /// The shape of a conjunct: its holes' sorts, and the conjunct, in which hole k stands as variable k.
@@ -337,13 +337,22 @@ pub struct Shape {
     pub conjunct: Spec,
 }
 
-/// A program: its tables, in source order; `main` is the number of the function main.
+/// A struct or a function, by its place in its table.
+#[derive(Clone, Copy, Debug, PartialEq, Eq)]
+pub enum Item {
+    Struct(u32),
+    Function(u32),
+}
+
+/// A program: its tables, each in source order; `items` is the order of structs and functions among each other, and
+/// `main` the number of the function main.
 #[derive(Drop)]
 pub struct Program {
     pub structs: Vec<StructInfo>,
     pub fields: Vec<FieldInfo>,
     pub functions: Vec<FunctionInfo>,
-    pub sites: Vec<Site>,
+    pub sites: Vec<ClaimSite>,
     pub shapes: Vec<Shape>,
+    pub items: Vec<Item>,
     pub main: u32,
 }

@@ -15,32 +15,32 @@ use Rattle.method.specs.declared.program.Target.{Target}
 use Rattle.method.specs.declared.program.Target.TheVariants.{Local, FieldOf}
 use Rattle.method.specs.declared.program.Operation.{Operation}
 use Rattle.method.specs.declared.program.Operation.TheVariants.{CompareExchange, Exchange, Increment, Decrement}
-use Rattle.method.specs.declared.program.Afterwards.{Afterwards}
-use Rattle.method.specs.declared.program.Afterwards.TheVariants.{Plainly, Compared}
-use Rattle.method.specs.declared.program.Right.{Right}
-use Rattle.method.specs.declared.program.Right.TheVariants.{Compute, Malloc, NewClaim, Interlocked}
-use Rattle.method.specs.declared.program.Change.{Change}
-use Rattle.method.specs.declared.program.Change.TheVariants.{Becomes, Gains, Loses}
+use Rattle.method.specs.declared.program.InterlockedResult.{InterlockedResult}
+use Rattle.method.specs.declared.program.InterlockedResult.TheVariants.{Plainly, Compared}
+use Rattle.method.specs.declared.program.RightSide.{RightSide}
+use Rattle.method.specs.declared.program.RightSide.TheVariants.{Compute, Malloc, NewClaim, Interlocked}
+use Rattle.method.specs.declared.program.OwnsChange.{OwnsChange}
+use Rattle.method.specs.declared.program.OwnsChange.TheVariants.{Assigned, Added, Removed}
 use Rattle.method.specs.declared.program.Simple.{Simple}
 use Rattle.method.specs.declared.program.Simple.TheVariants.{Assign, ChangeOwned, EndClaim}
 use Rattle.method.specs.declared.program.Inner.{Inner, Row_of-Inner, end_of-Inner, more_of-Inner}
 use Rattle.method.specs.declared.program.Inner.TheVariants.{Inside, InsideIf'}
 use Rattle.method.specs.declared.program.Action.{Action}
-use Rattle.method.specs.declared.program.Action.TheVariants.{Simply, Declare, Define, Close, Open, Say, Release, Start, Atomic}
+use Rattle.method.specs.declared.program.Action.TheVariants.{Simply, Declare, Define, WrapObject, UnwrapObject, AssertSpec, FreeObject, SpawnThread, Atomic}
 use Rattle.method.specs.declared.program.Receiver.{Receiver}
 use Rattle.method.specs.declared.program.Receiver.TheVariants.{Nobody, NewVariable, Place as Left}
 use Rattle.method.specs.declared.program.Stmt.{Stmt, Row_of-Stmt, end_of-Stmt, more_of-Stmt}
 use Rattle.method.specs.declared.program.Stmt.TheVariants.{Do, If', While', DoWhile', Unwrapping', Call, Return}
 use Rattle.method.specs.declared.program.Claimed.{Claimed}
 use Rattle.method.specs.declared.program.Claimed.TheVariants.{ClaimedVariable, ClaimedNull, ClaimedOther}
-use Rattle.method.specs.declared.program.Site.{Site}
+use Rattle.method.specs.declared.program.ClaimSite.{ClaimSite}
 use Rattle.method.specs.declared.program.Shape.{Shape}
 use Rattle.method.specs.declared.program.FieldInfo.{FieldInfo}
 use Rattle.method.specs.declared.program.StructInfo.{StructInfo}
 use Rattle.method.specs.declared.program.VariableInfo.{VariableInfo}
 use Rattle.method.specs.declared.program.FunctionInfo.{FunctionInfo}
 use Rattle.method.specs.declared.program.Program.{Program}
-use Rattle.object_types.specs.Sets.{every}
+use Rattle.object_types.specs.Sets.{every, some}
 use Rattle.int_ranges.specs.Ranges.{least_of, greatest_of}
 use Rattle.method.specs.Tables.{is_struct, has_volatile_owns, has_fixed_owns, struct_of}
 
@@ -211,26 +211,26 @@ module _ (p : Program) (f : FunctionInfo) where
   operands_fit Increment ty = true
   operands_fit Decrement ty = true
 
-  abbrev pub afterwards_values : Afterwards → Values → Option Values
+  abbrev pub afterwards_values : InterlockedResult → Values → Option Values
   afterwards_values (Plainly c) v = Some (converted_values c v)
   afterwards_values (Compared c equal e d) v = and_then (values e) (λ w. only_if (are_ints w) (converted_values d truth_values))
 
-  abbrev pub interlocked_values : Expr → Option FieldInfo → Operation → Afterwards → Option Values
+  abbrev pub interlocked_values : Expr → Option FieldInfo → Operation → InterlockedResult → Option Values
   interlocked_values e None op then' = None
   interlocked_values e (Some i) op then' =
       if is_pointer (λ n. n == i.of) e && (i.is_volatile && (are_ints (declared i.ty) && operands_fit op i.ty)) then afterwards_values then' (declared i.ty) else None
 
   -- a malloc stands outside atomic blocks, an Interlocked call inside, a claim in the function of its site
-  abbrev pub right_values : ℕ → Bool → Right → Option Values
+  abbrev pub right_values : ℕ → Bool → RightSide → Option Values
   right_values k inside (Compute e) = values e
   right_values k inside (Malloc ty) = only_if (not inside && is_struct p ty) (Refs (Pointer ty))
   right_values k inside (NewClaim n) = and_then (slice_get p.sites.items n) (λ s. only_if (s.function == k) (Refs Claim))
   right_values k inside (Interlocked e g op then') = if inside then interlocked_values e (slice_get p.fields.items g) op then' else None
 
-  abbrev pub change_allowed : Bool → Change → ℕ → Bool
-  change_allowed inside Becomes ty = not inside && not (has_fixed_owns p ty)
-  change_allowed inside Gains ty = if inside then has_volatile_owns p ty else not (has_fixed_owns p ty)
-  change_allowed inside Loses ty = if inside then has_volatile_owns p ty else not (has_fixed_owns p ty)
+  abbrev pub change_allowed : Bool → OwnsChange → ℕ → Bool
+  change_allowed inside Assigned ty = not inside && not (has_fixed_owns p ty)
+  change_allowed inside Added ty = if inside then has_volatile_owns p ty else not (has_fixed_owns p ty)
+  change_allowed inside Removed ty = if inside then has_volatile_owns p ty else not (has_fixed_owns p ty)
 
   abbrev pub simple_ok : ℕ → Bool → Simple → Bool
   simple_ok k inside (Assign t r) = takes t (right_values k inside r)
@@ -259,11 +259,11 @@ module _ (p : Program) (f : FunctionInfo) where
   action_ok k (Simply s) = simple_ok k false s
   action_ok k (Declare i) = nat_lt i (length f.variables.items)
   action_ok k (Define i r) = takes (Local i) (right_values k false r)
-  action_ok k (Close ty q e) = is_struct p ty && is_pointer (λ n. n == ty) e
-  action_ok k (Open e) = is_pointer (is_struct p) e
-  action_ok k (Say e) = true
-  action_ok k (Release e) = is_ref e
-  action_ok k (Start g es) = call_ok (slice_get p.functions.items g) es.items
+  action_ok k (WrapObject ty q e) = is_struct p ty && is_pointer (λ n. n == ty) e
+  action_ok k (UnwrapObject e) = is_pointer (is_struct p) e
+  action_ok k (AssertSpec e) = true
+  action_ok k (FreeObject e) = is_ref e
+  action_ok k (SpawnThread g es) = call_ok (slice_get p.functions.items g) es.items
   action_ok k (Atomic ls body) = every (λ i. is_ref i.object) ls.items && every (inner_ok k) body.items
 
   abbrev pub result_values : Option FunctionInfo → Option CType → Option Values
@@ -340,7 +340,7 @@ abbrev mutual
   of_content (SClaimsObject q c r o) = of_content c && of_content o
   of_content (SClaims q c m row) = of_content c && row_of_content row
   of_content (SLists q o) = of_content o
-  of_content (SHas part) = every hole_of_invariant part.holes.items
+  of_content (SHas c) = every hole_of_invariant c.holes.items
   of_content (SForAll n ty q x r e) = is_this x && of_content e
   of_content (SExists n ty q x m row) = is_this x && row_of_content row
 
@@ -389,7 +389,7 @@ abbrev mutual
   of_claim (SClaimsObject q c r o) = of_claim c && of_claim o
   of_claim (SClaims q c m row) = of_claim c && row_of_claim row
   of_claim (SLists q o) = of_claim o
-  of_claim (SHas part) = every hole_of_claim part.holes.items
+  of_claim (SHas c) = every hole_of_claim c.holes.items
   of_claim (SForAll n ty q x r e) = false
   of_claim (SExists n ty q x m row) = false
 
@@ -406,9 +406,28 @@ claimed_ok p f (ClaimedVariable i) = nat_lt i (length f.variables.items)
 claimed_ok p f ClaimedNull = true
 claimed_ok p f (ClaimedOther e ty) = has_type p f e ty
 
-abbrev pub site_ok : Program → Option FunctionInfo → Site → Bool
+abbrev pub is_named : List ℕ → ℕ → Bool
+is_named is i = some (λ j. j == i) is
+
+-- a claimed variable, and one that fills a hole, is among those that the site names
+abbrev pub claimed_named : List ℕ → Claimed → Bool
+claimed_named is (ClaimedVariable i) = is_named is i
+claimed_named is ClaimedNull = true
+claimed_named is (ClaimedOther e ty) = true
+
+abbrev pub hole_named : List ℕ → Hole → Bool
+hole_named is (OfVariable i) = is_named is i
+hole_named is (OfBound i) = false
+hole_named is OfMe = true
+hole_named is OfThis = false
+hole_named is OfResult = false
+
+abbrev pub names_all : ClaimSite → Bool
+names_all s = every (claimed_named s.variables.items) s.claimed.items && every (λ c. every (hole_named s.variables.items) c.holes.items) s.conjuncts.items
+
+abbrev pub site_ok : Program → Option FunctionInfo → ClaimSite → Bool
 site_ok p None s = false
-site_ok p (Some f) s = every (claimed_ok p f) s.claimed.items && every (λ i. nat_lt i (length f.variables.items)) s.variables.items
+site_ok p (Some f) s = names_all s && every (claimed_ok p f) s.claimed.items && every (λ i. nat_lt i (length f.variables.items)) s.variables.items
 
 abbrev pub is_field_range : Program → ℕ → ℕ → StructInfo → Bool
 is_field_range p ty f s = nat_le s.first_field f && nat_lt f (s.first_field + s.fields)
@@ -422,4 +441,4 @@ pub record WellTyped (p : Program) : Type 0 where
   pub field_structs : (f : ℕ) (i : FieldInfo) → slice_get p.fields.items f ≡ Some i → IsTrue (is_struct p i.of)
   pub invariants : (ty : ℕ) (s : StructInfo) → struct_of p ty ≡ Some s → IsTrue (every of_content s.invariants.items) × IsTrue (every of_content s.mine.items)
   pub shapes : (n : ℕ) (s : Shape) → slice_get p.shapes.items n ≡ Some s → IsTrue (is_conjunct s.conjunct)
-  pub sites : (n : ℕ) (s : Site) → slice_get p.sites.items n ≡ Some s → IsTrue (site_ok p (slice_get p.functions.items s.function) s)
+  pub sites : (n : ℕ) (s : ClaimSite) → slice_get p.sites.items n ≡ Some s → IsTrue (site_ok p (slice_get p.functions.items s.function) s)

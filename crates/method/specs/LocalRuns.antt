@@ -21,12 +21,12 @@ use Rattle.object_types.specs.Heap.{Heap}
 use Rattle.method.specs.Tables.{local}
 use Rattle.method.specs.Tables.{in_type, type_of_variable}
 use Rattle.method.specs.SpecValue.{holds}
-use Rattle.method.specs.Method.{Good}
-use Rattle.method.specs.Ownership.{Rely, Frame}
-use Rattle.method.specs.Code.{Outcome, Unfit, Gives, after, Context, Spot, may_write, checks, all_checks, eval, eval_all, scene, call_scene, return_scene, Failed, Gave, clause_tests, item_tests, check_specs}
-use Rattle.method.specs.Acts.{Place, Chosen, Going, spot, going, act, convert_to, conversion_checks, store, open_object, close, clauses_hold}
+use Rattle.method.specs.Legal.{Good}
+use Rattle.method.specs.Rely.{Rely, Frame}
+use Rattle.method.specs.Expressions.{Outcome, Unfit, Gives, after, Context, Spot, may_write, checks, all_checks, eval, eval_all, scene, call_scene, return_scene, Failed, Gave, clause_tests, item_tests, check_specs}
+use Rattle.method.specs.Actions.{Place, Chosen, Progress, spot, starting, act, convert_to, conversion_checks, store, open_object, close, clauses_hold}
 use Rattle.method.specs.Machine.{begin, callee, received, value_of, invariants, ensured, fit_parameters, requires_hold, all_true}
-use Rattle.method.specs.Walk.{reads, option_reads, specs_read, clauses_read, action_reads, row_sets, call_checks, receiver_checks, option_checks, stmt_checks, row_checks}
+use Rattle.method.specs.Text.{reads, option_reads, specs_read, clauses_read, action_reads, row_sets, call_checks, receiver_checks, option_checks, stmt_checks, row_checks}
 
 -- the check with this number is the one that fails
 abbrev pub FailsAt : {A : Type 0} → ℕ → Outcome A → Type 0
@@ -55,8 +55,8 @@ of_type (Some ty) v = in_type ty v
 
 module _ (p : Program) (x : Context) (f : FunctionInfo) where
   -- an action, with some choices and new references, leads there
-  abbrev pub ActsTo : Outcome Going → Heap → List Value → Type 0
-  ActsTo o h' l' = (g : Going) × (o.end ≡ Gave g) × (g.heap ≡ h') × (g.locals ≡ l')
+  abbrev pub ActsTo : Outcome Progress → Heap → List Value → Type 0
+  ActsTo o h' l' = (g : Progress) × (o.end ≡ Gave g) × (g.heap ≡ h') × (g.locals ≡ l')
 
   abbrev pub call_known : Option FunctionInfo → ℕ → Spot → Option Place → List Value → ℕ → Heap → Outcome Calling
   call_known None k at_ place args n h = Unfit
@@ -71,7 +71,7 @@ module _ (p : Program) (x : Context) (f : FunctionInfo) where
   -- the checks of a call
   abbrev pub calls : ℕ → Receiver → ℕ → List Expr → ℕ → Heap → List Value → Outcome Calling
   calls line to k es n h l =
-      after (received p to (spot x [] line) n (going h l (Chosen []))) (λ place.
+      after (received p to (spot x [] line) n (starting h l (Chosen []))) (λ place.
       after (eval_all p (spot x [] line) h l es (n + receiver_checks to)) (λ args.
       call_known (slice_get p.functions.items k) k (spot x [] line) place args (n + receiver_checks to + all_checks es) h
       )
@@ -84,9 +84,9 @@ module _ (p : Program) (x : Context) (f : FunctionInfo) where
     pub ensures_ : IsTrue (all_true (clauses_hold p c.info.ensures_.items (return_scene c.context k v)))
 
   -- the caller's conversion and store
-  abbrev pub receives : ℕ → Option Place → Option CType → Value → ℕ → Heap → List Value → Outcome Going
-  receives line None c v n h l = Gives (going h l (Chosen []))
-  receives line (Some place) c v n h l = after (convert_to (spot x [] line) c v n) (λ w. store p (spot x [] line) place w (n + conversion_checks c) (going h l (Chosen [])))
+  abbrev pub receives : ℕ → Option Place → Option CType → Value → ℕ → Heap → List Value → Outcome Progress
+  receives line None c v n h l = Gives (starting h l (Chosen []))
+  receives line (Some place) c v n h l = after (convert_to (spot x [] line) c v n) (λ w. store p (spot x [] line) place w (n + conversion_checks c) (starting h l (Chosen [])))
 
   abbrev pub invariants_at : ℕ → List Spec → Heap → List Value → ℕ → Outcome (Unit {0})
   invariants_at line invs h l n = invariants p (spot x [] line) invs h l n (Gives tt)
@@ -122,8 +122,8 @@ module _ (p : Program) (x : Context) (f : FunctionInfo) where
         × ((eval p (spot x [] tested) h' l' e (n + length invs.items + row_checks p f row)).end ≡ Gave v) × IsFalse (truth v)
     Reaches (Unwrapping' line ty q e m row) n h l h' l' =
         (k : Heap) × (v : Value) × (k1 : Heap) × (l1 : List Value) × (k2 : Heap) × (l2 : List Value) × (k3 : Heap) × Moves true p x.me h k × ((eval p (spot x [] line) k l e n).end ≡ Gave v)
-        × ActsTo (open_object p (spot x [] line) (referent v) (n + checks e) (going k l (Chosen []))) k1 l1 × ReachesRow row (n + checks e + 3) k1 l1 k2 l2 × Moves true p x.me k2 k3
-        × ActsTo (close p (spot x [] line) ty (referent v) (n + checks e + 3 + row_checks p f row) (going k3 l2 (Chosen []))) h' l'
+        × ActsTo (open_object p (spot x [] line) (referent v) (n + checks e) (starting k l (Chosen []))) k1 l1 × ReachesRow row (n + checks e + 3) k1 l1 k2 l2 × Moves true p x.me k2 k3
+        × ActsTo (close p (spot x [] line) ty (referent v) (n + checks e + 3 + row_checks p f row) (starting k3 l2 (Chosen []))) h' l'
     Reaches (Call line to c q es) n h l h' l' =
         (k : Heap) × (y : Calling) × (k1 : Heap) × (v : Value) × Moves true p x.me h k × ((calls line to q es.items n k l).end ≡ Gave y) × Answers y k k1 v
         × ActsTo (receives line y.place c v (n + call_checks p to q es.items) k1 l) h' l'
@@ -164,11 +164,11 @@ module _ (p : Program) (x : Context) (f : FunctionInfo) where
           × FailsAt label (invariants_at line invs.items k4 l2 (n + length invs.items + row_checks p f row + checks e))))))))
       Fails (Unwrapping' line ty q e m row) n h l =
           (k : Heap) × Moves true p x.me h k
-          × (FailsAt label (after (eval p (spot x [] line) k l e n) (λ v. open_object p (spot x [] line) (referent v) (n + checks e) (going k l (Chosen []))))
-          ⊎ ((v : Value) × (k1 : Heap) × (l1 : List Value) × ((eval p (spot x [] line) k l e n).end ≡ Gave v) × ActsTo (open_object p (spot x [] line) (referent v) (n + checks e) (going k l (Chosen []))) k1 l1
+          × (FailsAt label (after (eval p (spot x [] line) k l e n) (λ v. open_object p (spot x [] line) (referent v) (n + checks e) (starting k l (Chosen []))))
+          ⊎ ((v : Value) × (k1 : Heap) × (l1 : List Value) × ((eval p (spot x [] line) k l e n).end ≡ Gave v) × ActsTo (open_object p (spot x [] line) (referent v) (n + checks e) (starting k l (Chosen []))) k1 l1
           × (FailsRow row (n + checks e + 3) k1 l1
           ⊎ ((k2 : Heap) × (l2 : List Value) × (k3 : Heap) × ReachesRow row (n + checks e + 3) k1 l1 k2 l2 × Moves true p x.me k2 k3
-          × FailsAt label (close p (spot x [] line) ty (referent v) (n + checks e + 3 + row_checks p f row) (going k3 l2 (Chosen [])))))))
+          × FailsAt label (close p (spot x [] line) ty (referent v) (n + checks e + 3 + row_checks p f row) (starting k3 l2 (Chosen [])))))))
       Fails (Call line to c q es) n h l =
           (k : Heap) × Moves true p x.me h k
           × (FailsAt label (calls line to q es.items n k l)

@@ -12,22 +12,22 @@ use Rattle.method.specs.declared.program.Target.{Target}
 use Rattle.method.specs.declared.program.Target.TheVariants.{Local, FieldOf}
 use Rattle.method.specs.declared.program.Operation.{Operation}
 use Rattle.method.specs.declared.program.Operation.TheVariants.{CompareExchange, Exchange, Increment, Decrement}
-use Rattle.method.specs.declared.program.Afterwards.{Afterwards}
-use Rattle.method.specs.declared.program.Afterwards.TheVariants.{Plainly, Compared}
-use Rattle.method.specs.declared.program.Right.{Right}
-use Rattle.method.specs.declared.program.Right.TheVariants.{Compute, Malloc, NewClaim, Interlocked}
-use Rattle.method.specs.declared.program.Change.{Change}
-use Rattle.method.specs.declared.program.Change.TheVariants.{Becomes, Gains, Loses}
+use Rattle.method.specs.declared.program.InterlockedResult.{InterlockedResult}
+use Rattle.method.specs.declared.program.InterlockedResult.TheVariants.{Plainly, Compared}
+use Rattle.method.specs.declared.program.RightSide.{RightSide}
+use Rattle.method.specs.declared.program.RightSide.TheVariants.{Compute, Malloc, NewClaim, Interlocked}
+use Rattle.method.specs.declared.program.OwnsChange.{OwnsChange}
+use Rattle.method.specs.declared.program.OwnsChange.TheVariants.{Assigned, Added, Removed}
 use Rattle.method.specs.declared.program.Simple.{Simple}
 use Rattle.method.specs.declared.program.Simple.TheVariants.{Assign, ChangeOwned, EndClaim}
 use Rattle.method.specs.declared.program.Inner.{Inner, Row_of-Inner, end_of-Inner, more_of-Inner}
 use Rattle.method.specs.declared.program.Inner.TheVariants.{Inside, InsideIf'}
 use Rattle.method.specs.declared.program.Listed.{Listed}
 use Rattle.method.specs.declared.program.Action.{Action}
-use Rattle.method.specs.declared.program.Action.TheVariants.{Simply, Declare, Define, Close, Open, Say, Release, Start, Atomic}
+use Rattle.method.specs.declared.program.Action.TheVariants.{Simply, Declare, Define, WrapObject, UnwrapObject, AssertSpec, FreeObject, SpawnThread, Atomic}
 use Rattle.method.specs.declared.program.Claimed.{Claimed}
 use Rattle.method.specs.declared.program.Claimed.TheVariants.{ClaimedVariable, ClaimedNull, ClaimedOther}
-use Rattle.method.specs.declared.program.Site.{Site}
+use Rattle.method.specs.declared.program.ClaimSite.{ClaimSite}
 use Rattle.method.specs.declared.program.StructInfo.{StructInfo}
 use Rattle.method.specs.declared.program.FunctionInfo.{FunctionInfo}
 use Rattle.method.specs.declared.program.Clause.{Clause}
@@ -42,8 +42,8 @@ use Rattle.object_types.specs.Heap.{Heap, Record, put, hand_over, write, count_m
 use Rattle.method.specs.Tables.{local}
 use Rattle.method.specs.Tables.{in_type, type_of_field, type_of_variable, is_volatile, is_claimable, has_fixed_owns, struct_of, read}
 use Rattle.method.specs.SpecValue.{Scene, value, holds, entry_of}
-use Rattle.method.specs.Method.{inv_scene}
-use Rattle.method.specs.Code.{Outcome, Unfit, Gives, after, Context, Spot, check, check_each, is_listed, may_write, readable, checks, all_checks, converted, eval, eval_all, scene, call_scene, Tested, spec_test, inv_test, entry_test, clause_tests, item_tests, check_spec, check_specs}
+use Rattle.method.specs.Invariants.{inv_scene}
+use Rattle.method.specs.Expressions.{Outcome, Unfit, Gives, after, Context, Spot, check, check_each, is_listed, may_write, readable, checks, all_checks, converted, eval, eval_all, scene, call_scene, Tested, spec_test, inv_test, entry_test, clause_tests, item_tests, check_spec, check_specs}
 use Rattle.method.specs.Overflow.{Overflow, or_else, overflow}
 
 -- where a value goes, once the left side is worked out
@@ -58,25 +58,25 @@ pub data Supply : Type 0 where
   Picked : ℕ → List Ref → Supply
 
 -- an object whose invariant, or a claim whose property, is to be checked at the block's end: the check's place among those of its sort
-pub record Noted : Type 0 where
+pub record Deferred : Type 0 where
   pub place : ℕ
   pub which : Ref
 
 -- what a statement changes, on its way; `started` are the new threads' first functions
-pub record Going : Type 0 where
+pub record Progress : Type 0 where
   pub heap : Heap
   pub locals : List Value
   pub supply : Supply
-  pub changed : List Noted
-  pub made : List Noted
+  pub changed : List Deferred
+  pub made : List Deferred
   pub started : List Context
 
-abbrev pub heap_of : Going → Heap → Going
+abbrev pub heap_of : Progress → Heap → Progress
 heap_of g h = record g { heap = h }
 
 pub record Valued : Type 0 where
   pub value : Value
-  pub going : Going
+  pub starting : Progress
 
 pub record Took : Type 0 where
   pub which : Ref
@@ -106,9 +106,9 @@ no_tally = record { objects = 0; claims = 0 }
 abbrev pub tally_plus : Tally → Tally → Tally
 tally_plus a b = record { objects = a.objects + b.objects; claims = a.claims + b.claims }
 
-abbrev pub noted_from : ℕ → List Ref → List Noted
-noted_from n [] = []
-noted_from n (o ∷ os) = record { place = n; which = o } ∷ noted_from (n + 1) os
+abbrev pub deferred_from : ℕ → List Ref → List Deferred
+deferred_from n [] = []
+deferred_from n (o ∷ os) = record { place = n; which = o } ∷ deferred_from (n + 1) os
 
 -- Sizes in checks.
 
@@ -130,7 +130,7 @@ operation_checks (Exchange new) = checks new + 3
 operation_checks Increment = 4
 operation_checks Decrement = 4
 
-abbrev pub afterwards_checks : Afterwards → ℕ
+abbrev pub afterwards_checks : InterlockedResult → ℕ
 afterwards_checks (Plainly c) = conversion_checks c
 afterwards_checks (Compared c equal e d) = conversion_checks c + checks e + conversion_checks d
 
@@ -141,32 +141,32 @@ claimed_checks (ClaimedNull ∷ cs) = claimed_checks cs
 claimed_checks (ClaimedOther e ty ∷ cs) = checks e + claimed_checks cs
 
 -- the objects, the site's stability, and outside the conjuncts and the objects' invariants
-abbrev pub site_checks : Bool → Option Site → ℕ
+abbrev pub site_checks : Bool → Option ClaimSite → ℕ
 site_checks inside None = 0
 site_checks true (Some s) = claimed_checks s.claimed.items + length s.claimed.items + 1
-site_checks false (Some s) = claimed_checks s.claimed.items + length s.claimed.items + 1 + length s.parts.items + length s.claimed.items
+site_checks false (Some s) = claimed_checks s.claimed.items + length s.claimed.items + 1 + length s.conjuncts.items + length s.claimed.items
 
-abbrev pub right_checks : Program → Bool → Right → ℕ
+abbrev pub right_checks : Program → Bool → RightSide → ℕ
 right_checks p inside (Compute e) = checks e
 right_checks p inside (Malloc ty) = 0
 right_checks p inside (NewClaim n) = site_checks inside (slice_get p.sites.items n)
 right_checks p inside (Interlocked e f op then') = checks e + operation_checks op + afterwards_checks then'
 
-abbrev pub change_checks : Change → ℕ → ℕ
-change_checks Becomes n = 2
-change_checks Gains n = n + n
-change_checks Loses n = n + n
+abbrev pub change_checks : OwnsChange → ℕ → ℕ
+change_checks Assigned n = 2
+change_checks Added n = n + n
+change_checks Removed n = n + n
 
 abbrev pub simple_checks : Program → Bool → Simple → ℕ
 simple_checks p inside (Assign t r) = target_checks t + right_checks p inside r + store_checks t
 simple_checks p inside (ChangeOwned c e es) = checks e + all_checks es.items + change_checks c (length es.items)
 simple_checks p inside (EndClaim q e es) = checks e + all_checks es.items + 1 + length es.items + (if inside then 0 else length es.items)
 
-abbrev pub site_tally : Option Site → Tally
+abbrev pub site_tally : Option ClaimSite → Tally
 site_tally None = no_tally
 site_tally (Some s) = record { objects = length s.claimed.items; claims = 1 }
 
-abbrev pub right_tally : Program → Right → Tally
+abbrev pub right_tally : Program → RightSide → Tally
 right_tally p (Compute e) = no_tally
 right_tally p (Malloc ty) = no_tally
 right_tally p (NewClaim n) = site_tally (slice_get p.sites.items n)
@@ -269,18 +269,18 @@ claim_tests p at_ h earlier [] = []
 claim_tests p at_ h earlier (o ∷ os) = (is_claimable p o.ty && (closed_in h o && (not (is_in o earlier) && may_count at_ h o))) ∷ claim_tests p at_ h (o ∷ earlier) os
 
 module _ (p : Program) (at_ : Spot) where
-  abbrev pub run_expr : Expr → ℕ → Going → Outcome Value
+  abbrev pub run_expr : Expr → ℕ → Progress → Outcome Value
   run_expr e n g = eval p at_ g.heap g.locals e n
 
-  abbrev pub run_exprs : List Expr → ℕ → Going → Outcome (List Value)
+  abbrev pub run_exprs : List Expr → ℕ → Progress → Outcome (List Value)
   run_exprs es n g = eval_all p at_ g.heap g.locals es n
 
-  abbrev pub left_side : Target → ℕ → Going → Outcome Place
+  abbrev pub left_side : Target → ℕ → Progress → Outcome Place
   left_side (Local i) n g = Gives (InLocal i)
   left_side (FieldOf e f) n g = after (run_expr e n g) (λ v. Gives (InField (referent v) f))
 
   -- p->f = v: p is mutable, or listed and f volatile; p is writable, or listed
-  abbrev pub store : Place → Value → ℕ → Going → Outcome Going
+  abbrev pub store : Place → Value → ℕ → Progress → Outcome Progress
   store (InLocal i) v n g = Gives (record g { locals = slice_set g.locals i v })
   store (InField o f) v n g =
       check at_ (mutable at_.context.me g.heap o || (is_listed at_ o && is_volatile p f)) n Write (
@@ -290,23 +290,23 @@ module _ (p : Program) (at_ : Spot) where
       )
 
   -- NULL, or a new open object with these contents
-  abbrev pub malloc : ℕ → List Value → Going → Outcome Valued
+  abbrev pub malloc : ℕ → List Value → Progress → Outcome Valued
   malloc ty [] g = Unfit
   malloc ty (c ∷ vs) g =
       if truth c
-      then after (take_object g.supply ty g.heap) (λ t. Gives (record { value = Refers t.which; going = record g { heap = put g.heap t.which (new_object at_.context.me (first_field (struct_of p ty)) vs); supply = t.supply } }))
-      else Gives (record { value = Refers null; going = g })
+      then after (take_object g.supply ty g.heap) (λ t. Gives (record { value = Refers t.which; starting = record g { heap = put g.heap t.which (new_object at_.context.me (first_field (struct_of p ty)) vs); supply = t.supply } }))
+      else Gives (record { value = Refers null; starting = g })
 
-  abbrev pub run_claimed : List Claimed → ℕ → Going → Outcome (List Ref)
+  abbrev pub run_claimed : List Claimed → ℕ → Progress → Outcome (List Ref)
   run_claimed [] n g = Gives []
   run_claimed (ClaimedVariable i ∷ cs) n g = after (run_claimed cs n g) (λ os. Gives (referent (local g.locals i) ∷ os))
   run_claimed (ClaimedNull ∷ cs) n g = after (run_claimed cs n g) (λ os. Gives (null ∷ os))
   run_claimed (ClaimedOther e ty ∷ cs) n g = after (run_expr e n g) (λ v. after (run_claimed cs (n + checks e) g) (λ os. Gives (referent v ∷ os)))
 
   -- The new claim c is in the heap h1; inside, its objects and itself are noted for the block's end; outside the step, with the value stored, must give each conjunct and keep each object's invariant.
-  abbrev pub claim_made : Ref → Supply → List Ref → List Entry → Place → ℕ → Tally → Heap → Going → Outcome Valued
+  abbrev pub claim_made : Ref → Supply → List Ref → List Entry → Place → ℕ → Tally → Heap → Progress → Outcome Valued
   claim_made c supply objects es place n tally h1 g =
-      let with_claim : Valued = record { value = Refers c; going = record g { heap = h1; supply = supply; changed = g.changed ++ noted_from tally.objects objects; made = g.made ++ noted_from tally.claims (c ∷ []) } } in
+      let with_claim : Valued = record { value = Refers c; starting = record g { heap = h1; supply = supply; changed = g.changed ++ deferred_from tally.objects objects; made = g.made ++ deferred_from tally.claims (c ∷ []) } } in
       let h2 = stored_heap place (Refers c) h1 in
       if at_.inside
       then Gives with_claim
@@ -316,12 +316,12 @@ module _ (p : Program) (at_ : Spot) where
       )
       )
 
-  abbrev pub make_claim : Option Site → Place → ℕ → Tally → Going → Outcome Valued
+  abbrev pub make_claim : Option ClaimSite → Place → ℕ → Tally → Progress → Outcome Valued
   make_claim None place n tally g = Unfit
   make_claim (Some site) place n tally g =
       after (run_claimed site.claimed.items n g) (λ objects.
       let m = n + claimed_checks site.claimed.items in
-      let es = map (entry_of (scene at_.context g.heap g.locals)) site.parts.items in
+      let es = map (entry_of (scene at_.context g.heap g.locals)) site.conjuncts.items in
       check_each at_ (claim_tests p at_ g.heap [] objects) m MakeClaim (
       after (take_object g.supply 2 g.heap) (λ t.
       claim_made t.which t.supply objects es place (m + length objects + 1) tally (count_more (pos 1) objects (put g.heap t.which (new_claim at_.context.me objects es))) g
@@ -330,28 +330,28 @@ module _ (p : Program) (at_ : Spot) where
       )
 
   -- Read, for a count Range, Write, Writes; then the store
-  abbrev pub exchange : Operation → Ref → ℕ → List Value → ℕ → Going → Outcome Valued
+  abbrev pub exchange : Operation → Ref → ℕ → List Value → ℕ → Progress → Outcome Valued
   exchange op o f vs n g =
       let was = read p g.heap o f in
       let now = replaced op vs was in
       let m = if counts op then n + 2 else n + 1 in
       check at_ (readable p at_ g.heap o f) n Read (
       check at_ (not (counts op) || in_type (type_of_field p f) now) (n + 1) Range (
-      after (store (InField o f) now m g) (λ g'. Gives (record { value = given op was now; going = g' }))
+      after (store (InField o f) now m g) (λ g'. Gives (record { value = given op was now; starting = g' }))
       )
       )
 
-  abbrev pub afterwards : Afterwards → ℕ → Valued → Outcome Valued
+  abbrev pub afterwards : InterlockedResult → ℕ → Valued → Outcome Valued
   afterwards (Plainly c) n v = after (convert_to at_ c v.value n) (λ w. Gives (record v { value = w }))
   afterwards (Compared c equal e d) n v =
       after (convert_to at_ c v.value n) (λ a.
-      after (run_expr e (n + conversion_checks c) v.going) (λ b.
+      after (run_expr e (n + conversion_checks c) v.starting) (λ b.
       after (convert_to at_ d (says (if equal then same_value a b else not (same_value a b))) (n + conversion_checks c + checks e)) (λ w. Gives (record v { value = w }))
       )
       )
 
-  abbrev pub right_side : Right → Place → ℕ → Tally → Going → Outcome Valued
-  right_side (Compute e) place n tally g = after (run_expr e n g) (λ v. Gives (record { value = v; going = g }))
+  abbrev pub right_side : RightSide → Place → ℕ → Tally → Progress → Outcome Valued
+  right_side (Compute e) place n tally g = after (run_expr e n g) (λ v. Gives (record { value = v; starting = g }))
   right_side (Malloc ty) place n tally g = malloc ty at_.choices g
   right_side (NewClaim k) place n tally g = make_claim (slice_get p.sites.items k) place n tally g
   right_side (Interlocked e f op then') place n tally g =
@@ -364,32 +364,32 @@ module _ (p : Program) (at_ : Spot) where
       )
 
   -- one member more or less of the owned set of o
-  abbrev pub member_change : Change → Ref → Ref → ℕ → Going → Outcome Going
-  member_change Becomes o q n g = Gives g
-  member_change Gains o q n g =
+  abbrev pub member_change : OwnsChange → Ref → Ref → ℕ → Progress → Outcome Progress
+  member_change Assigned o q n g = Gives g
+  member_change Added o q n g =
       let joined : Heap = put g.heap o (record (g.heap.get o) { owned = with_member q (g.heap.get o).owned }) in
       if at_.inside
       then check at_ (is_listed at_ o) n Write (check at_ (wrapped at_.context.me g.heap q && may_write at_ q) (n + 1) Owns (Gives (heap_of g (hand_over joined (q ∷ []) o))))
       else check at_ (mutable at_.context.me g.heap o) n Write (check at_ (may_write at_ o) (n + 1) Writes (Gives (heap_of g joined)))
-  member_change Loses o q n g =
+  member_change Removed o q n g =
       let left : Heap = put g.heap o (record (g.heap.get o) { owned = without_member q (g.heap.get o).owned }) in
       if at_.inside
       then check at_ (is_listed at_ o) n Write (check at_ (is_in q (g.heap.get o).owned) (n + 1) Owns (Gives (heap_of g (hand_over left (q ∷ []) at_.context.me))))
       else check at_ (mutable at_.context.me g.heap o) n Write (check at_ (may_write at_ o) (n + 1) Writes (Gives (heap_of g left)))
 
-  abbrev pub members_change : Change → Ref → List Value → ℕ → Going → Outcome Going
+  abbrev pub members_change : OwnsChange → Ref → List Value → ℕ → Progress → Outcome Progress
   members_change c o [] n g = Gives g
   members_change c o (v ∷ vs) n g = after (member_change c o (referent v) n g) (λ g'. members_change c o vs (n + 2) g')
 
-  abbrev pub owned_change : Change → Ref → List Value → ℕ → Going → Outcome Going
-  owned_change Becomes o vs n g =
+  abbrev pub owned_change : OwnsChange → Ref → List Value → ℕ → Progress → Outcome Progress
+  owned_change Assigned o vs n g =
       check at_ (mutable at_.context.me g.heap o) n Write (
       check at_ (may_write at_ o) (n + 1) Writes (
       Gives (heap_of g (put g.heap o (record (g.heap.get o) { owned = set_of (map referent vs) })))
       )
       )
-  owned_change Gains o vs n g = members_change Gains o vs n g
-  owned_change Loses o vs n g = members_change Loses o vs n g
+  owned_change Added o vs n g = members_change Added o vs n g
+  owned_change Removed o vs n g = members_change Removed o vs n g
 
   -- c is a wrapped, writable claim whose claimed set is exactly these objects, each named once
   abbrev pub may_end : Ref → List Ref → Heap → Bool
@@ -399,22 +399,22 @@ module _ (p : Program) (at_ : Spot) where
   abbrev pub ended : Ref → List Ref → Heap → Heap
   ended c objects h = count_more (negsuc 0) objects (put h c (record (h.get c) { mode = Freed; owner = null }))
 
-  abbrev pub end_claim : Ref → List Ref → ℕ → Tally → Going → Outcome Going
+  abbrev pub end_claim : Ref → List Ref → ℕ → Tally → Progress → Outcome Progress
   end_claim c objects n tally g =
       let h1 = ended c objects g.heap in
       check at_ (may_end c objects g.heap) n DestroyClaim (
       check_each at_ (map (may_count at_ g.heap) objects) (n + 1) DestroyClaim (
       check_specs at_ (if at_.inside then [] else map (λ o. inv_test p o g.heap h1) objects) (n + 1 + length objects) Invariant (
-      Gives (record g { heap = h1; changed = g.changed ++ noted_from tally.objects objects })
+      Gives (record g { heap = h1; changed = g.changed ++ deferred_from tally.objects objects })
       )
       )
       )
 
-  abbrev pub run_simple : Simple → ℕ → Tally → Going → Outcome Going
+  abbrev pub run_simple : Simple → ℕ → Tally → Progress → Outcome Progress
   run_simple (Assign t r) n tally g =
       after (left_side t n g) (λ place.
       after (right_side r place (n + target_checks t) tally g) (λ v.
-      store place v.value (n + target_checks t + right_checks p at_.inside r) v.going
+      store place v.value (n + target_checks t + right_checks p at_.inside r) v.starting
       )
       )
   run_simple (ChangeOwned c e es) n tally g = after (run_expr e n g) (λ o. after (run_exprs es.items (n + checks e) g) (λ vs. owned_change c (referent o) vs (n + checks e + all_checks es.items) g))
@@ -426,18 +426,18 @@ module _ (p : Program) (x : Context) (listed : List Ref) where
 
   -- the statements inside an atomic block, each with its own checks
   abbrev mutual
-    pub run_inner : Inner → ℕ → Tally → Going → Outcome Going
+    pub run_inner : Inner → ℕ → Tally → Progress → Outcome Progress
     run_inner (Inside line s) n tally g = run_simple p (inner_spot line) s n tally g
     run_inner (InsideIf' line e m a k b) n tally g =
         after (eval p (inner_spot line) g.heap g.locals e n) (λ v.
         if truth v then run_row a (n + checks e) tally g else run_row b (n + checks e + row_checks p a) (tally_plus tally (row_tally p a)) g
         )
 
-    pub run_row : {m : _} → Row_of-Inner m → ℕ → Tally → Going → Outcome Going
+    pub run_row : {m : _} → Row_of-Inner m → ℕ → Tally → Progress → Outcome Progress
     run_row end_of-Inner n tally g = Gives g
     run_row (more_of-Inner i row) n tally g = after (run_inner i n tally g) (λ g'. run_row row (n + inner_checks p i) (tally_plus tally (inner_tally p i)) g')
 
-  abbrev pub run_list : List Inner → ℕ → Tally → Going → Outcome Going
+  abbrev pub run_list : List Inner → ℕ → Tally → Progress → Outcome Progress
   run_list [] n tally g = Gives g
   run_list (i ∷ is) n tally g = after (run_inner i n tally g) (λ g'. run_list is (n + inner_checks p i) (tally_plus tally (inner_tally p i)) g')
 
@@ -455,9 +455,9 @@ abbrev pub plain_listed : List Listed → ℕ
 plain_listed [] = 0
 plain_listed (i ∷ is) = (if i.is_claim then 0 else 1) + plain_listed is
 
-abbrev pub check_noted : {A : Type 0} → Spot → (Ref → Tested) → List Noted → ℕ → Outcome A → Outcome A
-check_noted at_ test [] n o = o
-check_noted at_ test (k ∷ ks) n o = check_spec at_ (test k.which) (n + k.place) Invariant (check_noted at_ test ks n o)
+abbrev pub check_deferred : {A : Type 0} → Spot → (Ref → Tested) → List Deferred → ℕ → Outcome A → Outcome A
+check_deferred at_ test [] n o = o
+check_deferred at_ test (k ∷ ks) n o = check_spec at_ (test k.which) (n + k.place) Invariant (check_deferred at_ test ks n o)
 
 abbrev pub block_checks : Program → List Listed → List Inner → ℕ
 block_checks p ls body = all_checks (listed_exprs ls) + length ls + list_checks p body + plain_listed ls + (list_tally p body).objects + (list_tally p body).claims
@@ -471,18 +471,18 @@ clauses_hold p cs s = map (λ c. holds p c.spec s) cs
 
 module _ (p : Program) (at_ : Spot) where
   -- over the whole block, from h0 on: the listed objects, those whose count it changed, the claims that it made
-  abbrev pub block_end : List Inner → List Listed → List Ref → Heap → ℕ → Going → Outcome Going
+  abbrev pub block_end : List Inner → List Listed → List Ref → Heap → ℕ → Progress → Outcome Progress
   block_end body ls os h0 n g =
       let test : Ref → Tested = λ o. inv_test p o h0 g.heap in
       check_specs at_ (map test (listed_objects ls os)) n Invariant (
-      check_noted at_ test g.changed (n + plain_listed ls) (
-      check_noted at_ test g.made (n + plain_listed ls + (list_tally p body).objects) (
+      check_deferred at_ test g.changed (n + plain_listed ls) (
+      check_deferred at_ test g.made (n + plain_listed ls + (list_tally p body).objects) (
       Gives g
       )
       )
       )
 
-  abbrev pub atomic : List Listed → List Inner → ℕ → Going → Outcome Going
+  abbrev pub atomic : List Listed → List Inner → ℕ → Progress → Outcome Progress
   atomic ls body n g =
       after (run_exprs p at_ (listed_exprs ls) n g) (λ vs.
       let os = map referent vs in
@@ -513,7 +513,7 @@ module _ (p : Program) (at_ : Spot) where
   abbrev pub set_overflow : ℕ → Heap → Ref → Option Overflow
   set_overflow ty h o = if has_fixed_owns p ty then mine_overflow h o (struct_mine (struct_of p ty)) else None
 
-  abbrev pub close : ℕ → Ref → ℕ → Going → Outcome Going
+  abbrev pub close : ℕ → Ref → ℕ → Progress → Outcome Progress
   close ty o n g =
       let members = wrapped_set ty g.heap o in
       let h1 : Heap = hand_over (put g.heap o (record (g.heap.get o) { mode = IsClosed; owned = members })) members o in
@@ -527,7 +527,7 @@ module _ (p : Program) (at_ : Spot) where
       )
       )
 
-  abbrev pub open_object : Ref → ℕ → Going → Outcome Going
+  abbrev pub open_object : Ref → ℕ → Progress → Outcome Progress
   open_object o n g =
       check at_ (wrapped at_.context.me g.heap o) n Unwrap (
       check at_ (may_write at_ o) (n + 1) Writes (
@@ -537,7 +537,7 @@ module _ (p : Program) (at_ : Spot) where
       )
       )
 
-  abbrev pub free : Ref → ℕ → Going → Outcome Going
+  abbrev pub free : Ref → ℕ → Progress → Outcome Progress
   free o n g =
       check at_ (mutable at_.context.me g.heap o) n Free (
       check at_ (may_write at_ o) (n + 1) Writes (
@@ -546,14 +546,14 @@ module _ (p : Program) (at_ : Spot) where
       )
 
   -- the items pass to the new thread, which then must meet the requires clauses
-  abbrev pub started : ℕ → FunctionInfo → List Value → List Ref → Ref → Supply → ℕ → Going → Outcome Going
+  abbrev pub started : ℕ → FunctionInfo → List Value → List Ref → Ref → Supply → ℕ → Progress → Outcome Progress
   started k f args items u supply n g =
       let h1 = hand_over g.heap items u in
       check_specs at_ (clause_tests p f.requires_.items (call_scene u h1 args)) n Spawn (
       Gives (record g { heap = h1; supply = supply; started = g.started ++ (record { function = k; me = u; entry = h1; writes = items; args = args } ∷ []) })
       )
 
-  abbrev pub spawn : ℕ → Option FunctionInfo → List Value → ℕ → Going → Outcome Going
+  abbrev pub spawn : ℕ → Option FunctionInfo → List Value → ℕ → Progress → Outcome Progress
   spawn k None args n g = Unfit
   spawn k (Some f) args n g =
       let items = items_of p f.writes.items (call_scene at_.context.me g.heap args) in
@@ -561,15 +561,15 @@ module _ (p : Program) (at_ : Spot) where
       after (take_thread g.supply at_.context.me g.heap) (λ t. started k f args items t.which t.supply (n + length items) g)
       )
 
-  abbrev pub run_action : Action → ℕ → Going → Outcome Going
+  abbrev pub run_action : Action → ℕ → Progress → Outcome Progress
   run_action (Simply s) n g = run_simple p at_ s n no_tally g
   run_action (Declare i) n g = Gives (record g { locals = slice_set g.locals i (local at_.choices 0) })
-  run_action (Define i r) n g = after (right_side p at_ r (InLocal i) n no_tally g) (λ v. store p at_ (InLocal i) v.value (n + right_checks p false r) v.going)
-  run_action (Close ty q e) n g = after (run_expr p at_ e n g) (λ v. close ty (referent v) (n + checks e) g)
-  run_action (Open e) n g = after (run_expr p at_ e n g) (λ v. open_object (referent v) (n + checks e) g)
-  run_action (Say e) n g = check_spec at_ (spec_test p e (scene at_.context g.heap g.locals)) n Assert (Gives g)
-  run_action (Release e) n g = after (run_expr p at_ e n g) (λ v. free (referent v) (n + checks e) g)
-  run_action (Start k es) n g = after (run_exprs p at_ es.items n g) (λ args. spawn k (slice_get p.functions.items k) args (n + all_checks es.items) g)
+  run_action (Define i r) n g = after (right_side p at_ r (InLocal i) n no_tally g) (λ v. store p at_ (InLocal i) v.value (n + right_checks p false r) v.starting)
+  run_action (WrapObject ty q e) n g = after (run_expr p at_ e n g) (λ v. close ty (referent v) (n + checks e) g)
+  run_action (UnwrapObject e) n g = after (run_expr p at_ e n g) (λ v. open_object (referent v) (n + checks e) g)
+  run_action (AssertSpec e) n g = check_spec at_ (spec_test p e (scene at_.context g.heap g.locals)) n Assert (Gives g)
+  run_action (FreeObject e) n g = after (run_expr p at_ e n g) (λ v. free (referent v) (n + checks e) g)
+  run_action (SpawnThread k es) n g = after (run_exprs p at_ es.items n g) (λ args. spawn k (slice_get p.functions.items k) args (n + all_checks es.items) g)
   run_action (Atomic ls body) n g = atomic ls.items body.items n g
 
 abbrev pub function_checks : Option FunctionInfo → ℕ
@@ -580,11 +580,11 @@ abbrev pub action_checks : Program → Action → ℕ
 action_checks p (Simply s) = simple_checks p false s
 action_checks p (Declare i) = 0
 action_checks p (Define i r) = right_checks p false r
-action_checks p (Close ty q e) = checks e + 4
-action_checks p (Open e) = checks e + 3
-action_checks p (Say e) = 1
-action_checks p (Release e) = checks e + 2
-action_checks p (Start k es) = all_checks es.items + function_checks (slice_get p.functions.items k)
+action_checks p (WrapObject ty q e) = checks e + 4
+action_checks p (UnwrapObject e) = checks e + 3
+action_checks p (AssertSpec e) = 1
+action_checks p (FreeObject e) = checks e + 2
+action_checks p (SpawnThread k es) = all_checks es.items + function_checks (slice_get p.functions.items k)
 action_checks p (Atomic ls body) = block_checks p ls.items body.items
 
 -- The choices that an event must carry for an action: for a declaration without first value one value of its type, for a malloc 0, or 1 and a value for each field, for anything else none.
@@ -605,7 +605,7 @@ abbrev pub malloc_fits : Program → ℕ → List Value → Bool
 malloc_fits p ty [] = false
 malloc_fits p ty (v ∷ vs) = (same_value v (Int (pos 0)) && no_choices vs) || (same_value v (Int (pos 1)) && contents_fit p (struct_of p ty) vs)
 
-abbrev pub right_fits : Program → Right → List Value → Bool
+abbrev pub right_fits : Program → RightSide → List Value → Bool
 right_fits p (Compute e) vs = no_choices vs
 right_fits p (Malloc ty) vs = malloc_fits p ty vs
 right_fits p (NewClaim n) vs = no_choices vs
@@ -625,11 +625,11 @@ abbrev pub action_fits : Program → ℕ → Action → List Value → Bool
 action_fits p k (Simply s) vs = simple_fits p s vs
 action_fits p k (Declare i) vs = one_fits (slice_get p.functions.items k) i vs
 action_fits p k (Define i r) vs = right_fits p r vs
-action_fits p k (Close ty q e) vs = no_choices vs
-action_fits p k (Open e) vs = no_choices vs
-action_fits p k (Say e) vs = no_choices vs
-action_fits p k (Release e) vs = no_choices vs
-action_fits p k (Start f es) vs = no_choices vs
+action_fits p k (WrapObject ty q e) vs = no_choices vs
+action_fits p k (UnwrapObject e) vs = no_choices vs
+action_fits p k (AssertSpec e) vs = no_choices vs
+action_fits p k (FreeObject e) vs = no_choices vs
+action_fits p k (SpawnThread f es) vs = no_choices vs
 action_fits p k (Atomic ls body) vs = no_choices vs
 
 abbrev pub fitting : {A : Type 0} → Bool → Outcome A → Outcome A
@@ -639,9 +639,9 @@ fitting false o = Unfit
 abbrev pub spot : Context → List Value → ℕ → Spot
 spot x choices line = record { choices = choices; context = x; line = line; inside = false; listed = [] }
 
-abbrev pub going : Heap → List Value → Supply → Going
-going h l supply = record { heap = h; locals = l; supply = supply; changed = []; made = []; started = [] }
+abbrev pub starting : Heap → List Value → Supply → Progress
+starting h l supply = record { heap = h; locals = l; supply = supply; changed = []; made = []; started = [] }
 
 -- One action of this line, whose first check has number n, in a function's run.
-unfoldable pub act : Program → Context → List Value → Supply → ℕ → Action → ℕ → Heap → List Value → Outcome Going
-act p x choices supply line a n h l = fitting (action_fits p x.function a choices) (run_action p (spot x choices line) a n (going h l supply))
+unfoldable pub act : Program → Context → List Value → Supply → ℕ → Action → ℕ → Heap → List Value → Outcome Progress
+act p x choices supply line a n h l = fitting (action_fits p x.function a choices) (run_action p (spot x choices line) a n (starting h l supply))

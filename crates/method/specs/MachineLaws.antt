@@ -5,12 +5,13 @@ use Rattle.method.specs.declared.program.Program.{Program}
 use Rattle.object_types.specs.References.{thread}
 use Rattle.object_types.specs.Sets.{some}
 use Rattle.object_types.specs.Heap.{Heap}
-use Rattle.method.specs.Method.{Good, Legal, Admissible}
-use Rattle.method.specs.Ownership.{Rely}
-use Rattle.method.specs.Acts.{Picked}
+use Rattle.method.specs.Legal.{Good, Legal}
+use Rattle.method.specs.Admissible.{Admissible}
+use Rattle.method.specs.Rely.{Rely}
+use Rattle.method.specs.Actions.{Picked}
 use Rattle.method.specs.Machine.{Thread, State, Event, Answer, NotEnabled, Faulted, Next, step, step_with, run, left_by, next_number, IsStart, IsFine, Safe}
-use Rattle.method.specs.LocalRun.{AllLocalOk}
-use Rattle.method.specs.Wellformed.{WellTyped}
+use Rattle.method.specs.LocalRuns.{AllLocalOk}
+use Rattle.method.specs.Typing.{WellTyped}
 
 -- admissible types, stable claims, and functions each of which passes its checks alone, make a program safe in every interleaving
 abbrev pub ThreadModularLaw : Type 0
@@ -48,6 +49,3 @@ abbrev pub StepsAreRelied : Type 0
 StepsAreRelied =
     (p : Program) → WellTyped p → (s : State) → IsStart p s → Good p s.heap → (events : List Event) (e : Event) → let s' = run p events s in Good p s'.heap →
     OnNext (step p s' e) (λ s2. Good p s2.heap → (t : ℕ) → t ≢ e.thread → (IsTrue (has_thread t s2.threads) → IsTrue (has_thread t s'.threads)) → Rely p (thread t) s'.heap s2.heap)
-
-abbrev pub RelyComposes : Type 0
-RelyComposes = (p : Program) (t : Ref) (h k j : Heap) → Rely p t h k → Rely p t k j → Rely p t h j

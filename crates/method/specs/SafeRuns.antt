@@ -9,12 +9,12 @@ use Rattle.method.specs.declared.program.Program.{Program}
 use Rattle.object_types.specs.References.{thread}
 use Rattle.object_types.specs.Values.{referent, truth}
 use Rattle.object_types.specs.Heap.{Heap}
-use Rattle.method.specs.Method.{Good}
-use Rattle.method.specs.Code.{Outcome, End, Misfit, Failed, Gave, Context, checks, eval}
-use Rattle.method.specs.Acts.{Chosen, Going, spot, going, act, open_object, close}
+use Rattle.method.specs.Legal.{Good}
+use Rattle.method.specs.Expressions.{Outcome, End, Misfit, Failed, Gave, Context, checks, eval}
+use Rattle.method.specs.Actions.{Chosen, Progress, spot, starting, act, open_object, close}
 use Rattle.method.specs.Machine.{begin, callee, fit_parameters, requires_hold}
-use Rattle.method.specs.Walk.{reads, option_reads, specs_read, clauses_read, action_reads, row_sets, call_checks, stmt_checks, row_checks}
-use Rattle.method.specs.LocalRun.{Moves, Turns, Answers, calls, receives, invariants_at, returns, LocalOk}
+use Rattle.method.specs.Text.{reads, option_reads, specs_read, clauses_read, action_reads, row_sets, call_checks, stmt_checks, row_checks}
+use Rattle.method.specs.LocalRuns.{Moves, Turns, Answers, calls, receives, invariants_at, returns, LocalOk}
 
 -- a place in a local run: a fact of the heap and the locals there
 abbrev pub Place : Type 1
@@ -33,7 +33,7 @@ abbrev pub Branch : Bool → Type 0 → Type 0 → Type 0
 Branch true a b = a
 Branch false a b = b
 
-abbrev pub Goes : Place → Going → Type 0
+abbrev pub Goes : Place → Progress → Type 0
 Goes rest g = rest g.heap g.locals
 
 module _ (p : Program) (x : Context) (f : FunctionInfo) (label : ℕ) where
@@ -58,9 +58,9 @@ module _ (p : Program) (x : Context) (f : FunctionInfo) (label : ℕ) where
         (rest k2 l2))) k' l')
     RunsStmt (Unwrapping' line ty q e m row) n rest h l =
         (k : Heap) → Moves true p x.me h k → Passes label (eval p (spot x [] line) k l e n) (λ v.
-        Passes label (open_object p (spot x [] line) (referent v) (n + checks e) (going k l (Chosen []))) (λ g.
+        Passes label (open_object p (spot x [] line) (referent v) (n + checks e) (starting k l (Chosen []))) (λ g.
         RunsRow row (n + checks e + 3) (λ h2 l2. (k2 : Heap) → Moves true p x.me h2 k2 →
-        Passes label (close p (spot x [] line) ty (referent v) (n + checks e + 3 + row_checks p f row) (going k2 l2 (Chosen []))) (Goes rest)) g.heap g.locals))
+        Passes label (close p (spot x [] line) ty (referent v) (n + checks e + 3 + row_checks p f row) (starting k2 l2 (Chosen []))) (Goes rest)) g.heap g.locals))
     RunsStmt (Call line to c q es) n rest h l =
         (k : Heap) → Moves true p x.me h k → Passes label (calls p x f line to q es.items n k l) (λ y.
         (k' : Heap) (v : Value) → Answers p x f y k k' v → Passes label (receives p x f line y.place c v (n + call_checks p to q es.items) k' l) (Goes rest))
