@@ -107,7 +107,7 @@ every_entries test [] = refl
 every_entries test (e ∷ es) = every_with test e (entries_of es) ∙ ap (λ z. test e && z) (every_entries test es)
 
 -- what is put into a set is in it
-or_right : (a b : Bool) → b ≡ true → a || b ≡ true
+pub or_right : (a b : Bool) → b ≡ true → a || b ≡ true
 or_right true b h = refl
 or_right false b h = h
 
@@ -133,7 +133,7 @@ unfolding is_in
 in_with q r [] = refl
 in_with q r (x ∷ xs) = in_with_by q r x xs (same_ref r x) (ref_lt r x) (same_ref_is r x) (in_with q r xs)
 
-in_set : (q : Ref) (xs : List Ref) → is_in q (set_of xs) ≡ is_in q xs
+pub in_set : (q : Ref) (xs : List Ref) → is_in q (set_of xs) ≡ is_in q xs
 unfolding is_in
 in_set q [] = refl
 in_set q (x ∷ xs) = in_with q x (set_of xs) ∙ ap (λ z. same_ref q x || z) (in_set q xs)

@@ -18,6 +18,7 @@ pub mod Labels
 pub mod MachineLaws
 pub mod Trace
 pub mod Rows
+pub mod RowFaults
 pub mod RowLocal
 pub mod RowOverflow
 pub mod RowClaimed

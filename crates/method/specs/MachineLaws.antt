@@ -4,7 +4,6 @@ use Rattle.object_types.specs.declared.references.Ref.{Ref}
 use Rattle.method.specs.declared.program.Program.{Program}
 use Rattle.object_types.specs.References.{thread}
 use Rattle.object_types.specs.Sets.{some}
-use Rattle.object_types.specs.Heap.{Heap}
 use Rattle.method.specs.Legal.{Good, Legal}
 use Rattle.method.specs.Admissible.{Admissible}
 use Rattle.method.specs.Rely.{Rely}
