@@ -513,8 +513,8 @@ module _ (p : Program) (at_ : Spot) where
   abbrev pub set_overflow : ℕ → Heap → Ref → Option Overflow
   set_overflow ty h o = if has_fixed_owns p ty then mine_overflow h o (struct_mine (struct_of p ty)) else None
 
-  abbrev pub close : ℕ → Ref → ℕ → Progress → Outcome Progress
-  close ty o n g =
+  abbrev pub wrap_object : ℕ → Ref → ℕ → Progress → Outcome Progress
+  wrap_object ty o n g =
       let members = wrapped_set ty g.heap o in
       let h1 : Heap = hand_over (put g.heap o (record (g.heap.get o) { mode = IsClosed; owned = members })) members o in
       check at_ (mutable at_.context.me g.heap o) n Wrap (
@@ -527,8 +527,8 @@ module _ (p : Program) (at_ : Spot) where
       )
       )
 
-  abbrev pub open_object : Ref → ℕ → Progress → Outcome Progress
-  open_object o n g =
+  abbrev pub unwrap_object : Ref → ℕ → Progress → Outcome Progress
+  unwrap_object o n g =
       check at_ (wrapped at_.context.me g.heap o) n Unwrap (
       check at_ (may_write at_ o) (n + 1) Writes (
       check at_ (is_zero_int (g.heap.get o).count) (n + 2) HasClaims (
@@ -565,8 +565,8 @@ module _ (p : Program) (at_ : Spot) where
   run_action (Simply s) n g = run_simple p at_ s n no_tally g
   run_action (Declare i) n g = Gives (record g { locals = slice_set g.locals i (local at_.choices 0) })
   run_action (Define i r) n g = after (right_side p at_ r (InLocal i) n no_tally g) (λ v. store p at_ (InLocal i) v.value (n + right_checks p false r) v.starting)
-  run_action (WrapObject ty q e) n g = after (run_expr p at_ e n g) (λ v. close ty (referent v) (n + checks e) g)
-  run_action (UnwrapObject e) n g = after (run_expr p at_ e n g) (λ v. open_object (referent v) (n + checks e) g)
+  run_action (WrapObject ty q e) n g = after (run_expr p at_ e n g) (λ v. wrap_object ty (referent v) (n + checks e) g)
+  run_action (UnwrapObject e) n g = after (run_expr p at_ e n g) (λ v. unwrap_object (referent v) (n + checks e) g)
   run_action (AssertSpec e) n g = check_spec at_ (spec_test p e (scene at_.context g.heap g.locals)) n Assert (Gives g)
   run_action (FreeObject e) n g = after (run_expr p at_ e n g) (λ v. free (referent v) (n + checks e) g)
   run_action (SpawnThread k es) n g = after (run_exprs p at_ es.items n g) (λ args. spawn k (slice_get p.functions.items k) args (n + all_checks es.items) g)
