@@ -23,5 +23,14 @@ pub record Frame (p : Program) (t : Ref) (h k e : Heap) (w : List Ref) : Type 0 
   pub own_closed : (o : Ref) → IsTrue (wrapped t h o) → IsFalse (writable t e w o) → IsTrue (wrapped t k o) × ((k.get o).count ≡ (h.get o).count)
   pub stable : (o : Ref) → InFrameSet p t h e w o → IsFixed p o h k × InFrameSet p t k e w o
 
+-- what others may do in turn, they may do at once
 abbrev pub RelyComposes : Type 0
 RelyComposes = (p : Program) (t : Ref) (h k j : Heap) → Rely p t h k → Rely p t k j → Rely p t h j
+
+-- others may do nothing
+abbrev pub RelyRests : Type 0
+RelyRests = (p : Program) (t : Ref) (h : Heap) → Good p h → Rely p t h h
+
+-- the same of a frame, from one entry and with one writes list
+abbrev pub FrameComposes : Type 0
+FrameComposes = (p : Program) (t : Ref) (h k j e : Heap) (w : List Ref) → Frame p t h k e w → Frame p t k j e w → Frame p t h j e w

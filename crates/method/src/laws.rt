@@ -1,6 +1,6 @@
 //! The laws, as contracts of functions that do nothing.
 
-ghost use Rattle.method.specs.Rely.{RelyComposes};
+ghost use Rattle.method.specs.Rely.{RelyRests, RelyComposes, FrameComposes};
 ghost use Rattle.method.specs.StableSet.{StableSetLaw};
 ghost use Rattle.method.specs.Admissible.{GlobalLaw};
 
@@ -9,9 +9,19 @@ pub fn global_law()
     ensures { GlobalLaw }
 {}
 
-/// What other threads may do in turn, they may do.
+/// Other threads may do nothing.
+pub fn rely_rests()
+    ensures { RelyRests }
+{}
+
+/// What other threads may do in turn, they may do at once.
 pub fn rely_composes()
     ensures { RelyComposes }
+{}
+
+/// What all threads may do in turn within a frame, they may do at once.
+pub fn frame_composes()
+    ensures { FrameComposes }
 {}
 
 /// The test of the stable set is its inductive definition.
