@@ -3,6 +3,7 @@
 ghost use Rattle.method.specs.Rely.{RelyRests, RelyComposes, FrameComposes};
 ghost use Rattle.method.specs.StableSet.{StableSetLaw};
 ghost use Rattle.method.specs.Admissible.{GlobalLaw};
+ghost use Rattle.method.specs.SafeRuns.{SameRuns};
 
 /// Legal steps keep every invariant.
 pub fn global_law()
@@ -27,4 +28,9 @@ pub fn frame_composes()
 /// The test of the stable set is its inductive definition.
 pub fn stable_set_law()
     ensures { StableSetLaw }
+{}
+
+/// Local safety told by runs, and by what holds at each place, is one.
+pub fn same_runs()
+    ensures { SameRuns }
 {}
