@@ -2,7 +2,7 @@
 use Rattle.std.specs.Prelude.{◌≡◌, ℕ, ◌⊎◌}
 use Rattle.object_types.specs.declared.references.Ref.{Ref}
 use Rattle.method.specs.declared.program.Program.{Program}
-use Rattle.object_types.specs.Heap.{Heap, closed_in, IsClosedIn}
+use Rattle.object_types.specs.Heap.{Heap, closed_in, IsClosedIn, empty_heap}
 use Rattle.method.specs.Invariants.{Inv}
 use Rattle.method.specs.WellFormed.{WellFormed, WellFormedStep}
 
@@ -33,3 +33,7 @@ pub record Kept (p : Program) (h0 h1 : Heap) : Type 0 where
 pub record Good (p : Program) (h : Heap) : Type 0 where
   pub well_formed : WellFormed p h
   pub all : (o : Ref) → IsClosedIn h o → Inv p o h h
+
+-- where there is nothing, nothing is owed
+abbrev pub EmptyIsGood : Type 0
+EmptyIsGood = (p : Program) → Good p empty_heap

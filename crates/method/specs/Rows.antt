@@ -5,7 +5,7 @@ use Rattle.object_types.specs.declared.values.Value.TheVariants.{Int, Ref as Ref
 use Rattle.int_ranges.specs.declared.ctype.CType.TheVariants.{Int as SignedInt}
 use Rattle.method.specs.declared.program.DeclaredType.TheVariants.{Integer, Pointer, Claim}
 use Rattle.method.specs.declared.program.Sort.TheVariants.{IntSort, RefSort}
-use Rattle.method.specs.declared.program.CheckKind.TheVariants.{Write, Writes, Divide, AtomicClosed}
+use Rattle.method.specs.declared.program.CheckKind.TheVariants.{Read, Write, Writes, Divide, AtomicClosed, MakeClaim, ClaimStable, Invariant, Assert}
 use Rattle.method.specs.declared.program.Comparison.TheVariants.{Equal, NotEqual, GreaterEqual, LessEqual}
 use Rattle.method.specs.declared.program.Operator.TheVariants.{Over}
 use Rattle.method.specs.declared.program.Expr.{Expr}
@@ -34,7 +34,8 @@ use Rattle.method.specs.Invariants.{inv_holds}
 use Rattle.method.specs.Text.{body_checks}
 use Rattle.method.specs.Actions.{act}
 use Rattle.method.specs.Machine.{State, Event, step, run}
-use Rattle.method.specs.Trace.{Memory, vec, box, Said, Line, Fails, Waits, trace, event, state_of}
+use Rattle.method.specs.Labels.{labels}
+use Rattle.method.specs.Trace.{Memory, vec, box, Said, Line, Fails, Waits, trace, event, state_of, label}
 
 -- struct S { int v; };
 -- void main() {
@@ -162,7 +163,10 @@ module _ (m : Memory) where
   unfolding step act in_type same_ref put is_in inv_holds hand_over
   count_two = refl
 
-  -- AtomicClosed, Read, MakeClaim, ClaimStable, Invariant of p listed, of p counted, of the claim; Assert
+  -- the Invariant checks are those of p as listed, of p as counted, and of the claim
+  pub labels_two : labels two main_two ≡ label AtomicClosed 5 ∷ label Read 5 ∷ label MakeClaim 6 ∷ label ClaimStable 6 ∷ label Invariant 5 ∷ label Invariant 5 ∷ label Invariant 5 ∷ label Assert 7 ∷ []
+  labels_two = refl
+
   pub checks_two : body_checks two main_two body_two ≡ 8
   checks_two = refl
 
