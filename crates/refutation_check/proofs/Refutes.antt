@@ -4,7 +4,7 @@ use Rattle.std.proofs.lemmas.Option.{slice_get_within, slice_get_cases}
 use borrow.Author.Count.{below_more}
 use Rattle.terms.specs.declared.term.Term.{Term}
 use Rattle.terms.specs.declared.term.Literal.{Literal}
-use Rattle.terms.specs.Meaning.{Env, Value, truth, IsValuation, clause_true, IsAlwaysTrue}
+use Rattle.term_eval.specs.Meaning.{Env, Value, truth, IsValuation, clause_true, IsAlwaysTrue}
 use Rattle.vcc_rules.specs.Law.{EarlierHold, IsConsequence, IsWithin, AreWithin}
 use Rattle.vcc_rules.specs.Sound.{root_sound, connective_sound, chain_sound}
 use Rattle.vcc_rules.specs.EqualitySound.{refl_sound, sym_sound, trans_sound}

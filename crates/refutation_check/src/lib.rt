@@ -2,7 +2,7 @@
 #![tactic(auto)]
 
 ghost use Rattle.std.specs.Prelude.{◌≡◌, ℕ, ◌↔◌, ◌<◌, ◌≤◌, List, length, map, IsTrue, IfOk, Some};
-ghost use Rattle.terms.specs.Meaning.{IsAlwaysTrue};
+ghost use Rattle.term_eval.specs.Meaning.{IsAlwaysTrue};
 ghost use Rattle.vcc_rules.specs.Law.{IsWithin, AreWithin};
 ghost use Rattle.std.specs.Prelude.{slice_get};
 ghost use Rattle.cert_format.specs.declared.certificate.Step.{Step as AnyStep};
@@ -10,7 +10,7 @@ ghost use Rattle.refutation_check.specs.Follows.{EndsEmpty, Follows, IsGiven, cl
 
 use cert_format::certificate::{Refutation, RuleName, Step};
 use std::alloc::{AllocError, Global};
-use terms::list::TermList;
+use term_bank::bank::Bank;
 use terms::term::{Clause, Literal};
 use vcc_rules::equality::{Reflexivity, Symmetry, Transitivity};
 use vcc_rules::propositional::{Chain, Connective, Root};
@@ -20,12 +20,12 @@ use vcc_rules::rule::{Clauses, Rule, Scratch};
 #[tactic(auto, using(crate::proofs::Refutes::refutes))]
 pub fn check_one(
     alloc: Global,
-    terms: &TermList,
+    terms: &Bank,
     root: u32,
     block: &Refutation,
 ) -> Result<bool, AllocError>
-    ensures exact { IfOk result (λ yes. IsTrue yes ↔ Follows terms.now root block.now) }
-    ensures always { IfOk result (λ yes. IsTrue yes → IsAlwaysTrue terms.now root) }
+    ensures exact { IfOk result (λ yes. IsTrue yes ↔ Follows terms.now.terms root block.now) }
+    ensures always { IfOk result (λ yes. IsTrue yes → IsAlwaysTrue terms.now.terms root) }
 {
     let steps = block.steps();
     let clauses = clauses_of(alloc, root, steps)?;
@@ -36,10 +36,10 @@ pub fn check_one(
 }
 
 /// Whether the steps, whose clauses these are, refute that the condition is false.
-fn is_refutation(terms: &TermList, clauses: &Clauses, steps: &[Step], scratch: &mut Scratch) -> bool
+fn is_refutation(terms: &Bank, clauses: &Clauses, steps: &[Step], scratch: &mut Scratch) -> bool
     requires same { clauses.now.list.items ≡ map clause_of steps.now }
-    requires room { scratch.old ≡ length terms.now }
-    ensures exact { (root : ℕ) → clauses.now.root ≡ Some root → IsTrue result ↔ Follows terms.now root steps.now }
+    requires room { scratch.old ≡ length terms.now.terms }
+    ensures exact { (root : ℕ) → clauses.now.root ≡ Some root → IsTrue result ↔ Follows terms.now.terms root steps.now }
 {
     let list = clauses.list.as_slice();
     if !are_within(terms.len(), list) {
@@ -87,17 +87,17 @@ fn are_within(terms: usize, clauses: &[Clause]) -> bool
 
 /// Whether the row that the step names gives its clause from those of the first steps.
 fn is_given(
-    terms: &TermList,
+    terms: &Bank,
     clauses: &Clauses,
     below: usize,
     step: &Step,
     scratch: &mut Scratch,
 ) -> bool
     requires below { below ≤ length clauses.now.list.items }
-    requires within { AreWithin (length terms.now) clauses.now.list.items }
-    requires clause_within { IsWithin (length terms.now) step.now.clause }
-    requires room { scratch.old ≡ length terms.now }
-    ensures rows { IsTrue result ↔ IsGiven terms.now clauses.now.root clauses.now.list.items below step.now }
+    requires within { AreWithin (length terms.now.terms) clauses.now.list.items }
+    requires clause_within { IsWithin (length terms.now.terms) step.now.clause }
+    requires room { scratch.old ≡ length terms.now.terms }
+    ensures rows { IsTrue result ↔ IsGiven terms.now.terms clauses.now.root clauses.now.list.items below step.now }
     ensures room { scratch.new ≡ scratch.old }
 {
     let clause = step.clause.literals();
@@ -113,11 +113,11 @@ fn is_given(
 }
 
 /// Whether each step is given from those before it.
-fn are_given(terms: &TermList, clauses: &Clauses, steps: &[Step], scratch: &mut Scratch) -> bool
+fn are_given(terms: &Bank, clauses: &Clauses, steps: &[Step], scratch: &mut Scratch) -> bool
     requires same { clauses.now.list.items ≡ map clause_of steps.now }
-    requires within { AreWithin (length terms.now) clauses.now.list.items }
-    requires room { scratch.old ≡ length terms.now }
-    ensures { IsTrue result ↔ ((i : ℕ) (s : AnyStep) → slice_get steps.now i ≡ Some s → IsGiven terms.now clauses.now.root clauses.now.list.items i s) }
+    requires within { AreWithin (length terms.now.terms) clauses.now.list.items }
+    requires room { scratch.old ≡ length terms.now.terms }
+    ensures { IsTrue result ↔ ((i : ℕ) (s : AnyStep) → slice_get steps.now i ≡ Some s → IsGiven terms.now.terms clauses.now.root clauses.now.list.items i s) }
 {
     for (i, step) in steps.iter().enumerate() {
         if !is_given(terms, clauses, i, step, scratch) {

@@ -1,7 +1,8 @@
-//! Terms, literals and lists of terms in which no term stands twice, and what terms mean.
+//! Terms and their sorts, literals and clauses, formulas as trees.
 #![tactic(auto)]
 
-pub mod list;
-pub mod meaning;
 pub mod numbers;
+pub mod sort;
 pub mod term;
+#[cfg(test)]
+mod tests;

@@ -1,12 +1,11 @@
-use Rattle.std.proofs.Common.{◌≡◌, ℕ, List, [], ◌∷◌, map, Some, None, Option, slice_get, get_or, Bool, true, false, not, ◌&&◌, ◌||◌, cond, refl, ap, sym, ◌∙◌, subst, ℤ}
+use Rattle.std.proofs.Common.{◌≡◌, ℕ, List, [], ◌∷◌, map, Some, None, Option, slice_get, Bool, true, false, not, ◌||◌, refl, ap, sym, ◌∙◌, subst, ℤ}
 use Rattle.std.specs.Option.{option_and_then}
 use Rattle.terms.specs.declared.term.Term.{Term}
 use Rattle.terms.specs.declared.term.Literal.{Literal}
 use Rattle.terms.specs.declared.term.Kind.{Kind}
-use Rattle.terms.specs.declared.term.Kind.TheVariants.{Int, Ci, Ch, True, Not, And, Or, Imp, Eq, Le, Good}
-use Rattle.terms.specs.Meaning.{Env, Value, truth, Decides, Means, IsValuation, clause_true, literal_true}
-use Rattle.vcc_rules.specs.Law.{EarlierHold, IsConsequence}
-use Rattle.vcc_rules.specs.Rows.{yes, no}
+use Rattle.terms.specs.declared.term.Kind.TheVariants.{Eq}
+use Rattle.term_eval.specs.Meaning.{Env, Value, truth, Decides, Means, IsValuation}
+use Rattle.vcc_rules.specs.Law.{IsConsequence}
 use Rattle.vcc_rules.specs.Equality.{sides_of, sides, IsRefl, IsSym, IsTrans}
 
 same_means : (e : Env) (k : Kind) (i : ℤ) (xs : List ℕ) (v : ℕ → Value) (x : Value) (a b : ℕ) → sides_of k xs ≡ Some (a, b) → Means e k i (map v xs) x → Decides x (v a ≡ v b)

@@ -1,7 +1,7 @@
-use Rattle.std.specs.Prelude.{◌≡◌, ℕ, ◌<◌, List, Option, Some, slice_get, Bool, true, false, All}
+use Rattle.std.specs.Prelude.{◌≡◌, ℕ, ◌<◌, List, Option, Some, slice_get, true, false, All}
 use Rattle.terms.specs.declared.term.Term.{Term}
 use Rattle.terms.specs.declared.term.Literal.{Literal}
-use Rattle.terms.specs.Meaning.{Env, Value, IsValuation, truth, clause_true}
+use Rattle.term_eval.specs.Meaning.{Env, Value, IsValuation, truth, clause_true}
 
 -- The condition, whose root this is, is false, and the first clauses are true.
 pub record EarlierHold (v : ℕ → Value) (root : Option ℕ) (clauses : List (List Literal)) (below : ℕ) : Type 0 where

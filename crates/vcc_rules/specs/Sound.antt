@@ -1,13 +1,13 @@
-use Rattle.std.proofs.Common.{◌≡◌, ℕ, zero, suc, ◌+◌, ◌<◌, ◌≤◌, ◌-◌, ℤ, ◌⊎◌, inl, inr, List, [], ◌∷◌, map, Some, None, Option, slice_get, get_or, Bool, true, false, not, ◌&&◌, ◌||◌, cond, refl, ap, sym, ◌∙◌, subst, arith}
-use Rattle.std.proofs.Common.{nat_eq, filter}
+use Rattle.std.proofs.Common.{◌≡◌, ℕ, zero, suc, ◌<◌, ◌-◌, ℤ, ◌⊎◌, inl, inr, List, [], ◌∷◌, map, Some, Option, slice_get, Bool, true, false, not, ◌&&◌, ◌||◌, cond, refl, ap, sym, ◌∙◌, subst}
+use Rattle.std.proofs.Common.{nat_eq}
 use Rattle.std.proofs.lemmas.Bool.{eqb-true}
 use Rattle.terms.specs.declared.term.Term.{Term}
 use Rattle.terms.specs.declared.term.Literal.{Literal}
 use Rattle.terms.specs.declared.term.Kind.{Kind}
-use Rattle.terms.specs.declared.term.Kind.TheVariants.{Int, Ci, Ch, True, Not, And, Or, Imp, Eq, Le, Good}
-use Rattle.terms.specs.Meaning.{Env, Value, BoolValue, IntValue, HeapValue, truth, number, heap, first, second, Decides, Means, IsValuation, clause_true, literal_true}
-use Rattle.vcc_rules.specs.Law.{EarlierHold, IsConsequence}
-use Rattle.vcc_rules.specs.Rows.{IsRoot, IsPart, yes, no, connective_clauses, IsConnective, same_literal, same_sign, is_known, negated, open_of, Closes}
+use Rattle.terms.specs.declared.term.Kind.TheVariants.{True, Not, And, Or, Imp}
+use Rattle.term_eval.specs.Meaning.{Env, Value, truth, Means, clause_true, literal_true}
+use Rattle.vcc_rules.specs.Law.{IsConsequence}
+use Rattle.vcc_rules.specs.Rows.{IsRoot, connective_clauses, IsConnective, same_literal, same_sign, is_known, negated, open_of, Closes}
 
 pub root_sound : (terms : List Term) (root : Option ℕ) (clauses : List (List Literal)) (below : ℕ) (numbers : List ℤ) (clause : List Literal) → IsRoot root numbers clause → IsConsequence terms root clauses below clause
 root_sound terms root clauses below numbers clause h e v valued hold =

@@ -6,7 +6,7 @@ ghost use Rattle.vcc_rules.specs.EqualitySound.{refl_sound, sym_sound, trans_sou
 
 use crate::propositional::{is_one, is_pair, is_triple, no, yes};
 use crate::rule::{Clauses, Rule, Scratch};
-use terms::list::TermList;
+use term_bank::bank::Bank;
 use terms::numbers::{Numbers, index_below};
 use terms::term::{Kind, Literal};
 
@@ -19,8 +19,8 @@ pub struct Equality {
 }
 
 /// The equality that a step's number names.
-fn equality_at(terms: &TermList, number: i128) -> Option<Equality>
-    ensures { MatchOption result ((t a b : ℕ) → number ≡ pos t → sides terms.now t ≡ Some (a, b) → ⊥) (λ x. IsEquality terms.now number x) }
+fn equality_at(terms: &Bank, number: i128) -> Option<Equality>
+    ensures { MatchOption result ((t a b : ℕ) → number ≡ pos t → sides terms.now.terms t ≡ Some (a, b) → ⊥) (λ x. IsEquality terms.now.terms number x) }
 {
     let term = index_below(number, terms.len())? as u32;
     let node = terms.node(term);
@@ -44,7 +44,7 @@ impl Rule for Reflexivity {
 
     fn concludes(
         &self,
-        terms: &TermList,
+        terms: &Bank,
         _earlier: &Clauses,
         _below: usize,
         detail: &Numbers,
@@ -73,7 +73,7 @@ impl Rule for Symmetry {
 
     fn concludes(
         &self,
-        terms: &TermList,
+        terms: &Bank,
         _earlier: &Clauses,
         _below: usize,
         detail: &Numbers,
@@ -106,7 +106,7 @@ impl Rule for Transitivity {
 
     fn concludes(
         &self,
-        terms: &TermList,
+        terms: &Bank,
         _earlier: &Clauses,
         _below: usize,
         detail: &Numbers,
@@ -122,8 +122,8 @@ impl Rule for Transitivity {
     ghost sound = { λ rule terms earlier below detail clause. trans_sound terms earlier.root earlier.list.items below detail clause };
 }
 
-fn is_trans(terms: &TermList, t: i128, u: i128, w: i128, clause: &[Literal]) -> bool
-    ensures { IsTrue result ↔ IsTrans terms.now (t ∷ u ∷ w ∷ []) clause.now }
+fn is_trans(terms: &Bank, t: i128, u: i128, w: i128, clause: &[Literal]) -> bool
+    ensures { IsTrue result ↔ IsTrans terms.now.terms (t ∷ u ∷ w ∷ []) clause.now }
 {
     match (
         equality_at(terms, t),

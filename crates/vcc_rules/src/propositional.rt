@@ -5,7 +5,7 @@ ghost use Rattle.vcc_rules.specs.Rows.{IsRoot, IsPart, IsConnective, Closes, yes
 ghost use Rattle.vcc_rules.specs.Sound.{root_sound, connective_sound, chain_sound};
 
 use crate::rule::{Clauses, Rule, Scratch};
-use terms::list::TermList;
+use term_bank::bank::Bank;
 use terms::numbers::{Numbers, index_below};
 use terms::term::{Kind, Literal, Term};
 
@@ -19,7 +19,7 @@ impl Rule for Root {
 
     fn concludes(
         &self,
-        _terms: &TermList,
+        _terms: &Bank,
         earlier: &Clauses,
         _below: usize,
         detail: &Numbers,
@@ -45,7 +45,7 @@ impl Rule for Connective {
 
     fn concludes(
         &self,
-        terms: &TermList,
+        terms: &Bank,
         _earlier: &Clauses,
         _below: usize,
         detail: &Numbers,
@@ -62,8 +62,8 @@ impl Rule for Connective {
 }
 
 #[tactic(auto, using(crate::proofs::Parts::part_below))]
-fn is_connective(terms: &TermList, part: i128, term: i128, clause: &[Literal]) -> bool
-    ensures row { IsTrue result ↔ IsConnective terms.now (part ∷ term ∷ []) clause.now }
+fn is_connective(terms: &Bank, part: i128, term: i128, clause: &[Literal]) -> bool
+    ensures row { IsTrue result ↔ IsConnective terms.now.terms (part ∷ term ∷ []) clause.now }
 {
     match (index_below(part, 4), index_below(term, terms.len())) {
         (Some(part), Some(t)) => is_part(terms.node(t as u32), t as u32, part, clause),
@@ -137,7 +137,7 @@ impl Rule for Chain {
 
     fn concludes(
         &self,
-        _terms: &TermList,
+        _terms: &Bank,
         earlier: &Clauses,
         below: usize,
         detail: &Numbers,

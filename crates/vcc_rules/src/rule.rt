@@ -6,7 +6,7 @@ ghost use Rattle.vcc_rules.specs.Law.{AreWithin, IsConsequence, IsWithin};
 use crate::chain::{clear, closes};
 use std::alloc::{AllocError, Global};
 use std::marker::Model;
-use terms::list::TermList;
+use term_bank::bank::Bank;
 use terms::term::{Clause, Literal};
 
 /// The root of the condition, which is taken as false, and the clauses of the steps so far.
@@ -112,7 +112,7 @@ pub trait Rule {
     /// Whether a row of the rule gives the clause from the first `below` of the earlier ones.
     fn concludes(
         &self,
-        terms: &TermList,
+        terms: &Bank,
         earlier: &Clauses,
         below: usize,
         detail: &Self::Data,
@@ -120,10 +120,10 @@ pub trait Rule {
         scratch: &mut Scratch,
     ) -> bool
         requires below { below ≤ length earlier.now.list.items }
-        requires within { AreWithin (length terms.now) earlier.now.list.items }
-        requires clause_within { IsWithin (length terms.now) clause.now }
-        requires room { scratch.old ≡ length terms.now }
-        ensures rows { IsTrue result ↔ gives self.now terms.now earlier.now below detail.now clause.now }
+        requires within { AreWithin (length terms.now.terms) earlier.now.list.items }
+        requires clause_within { IsWithin (length terms.now.terms) clause.now }
+        requires room { scratch.old ≡ length terms.now.terms }
+        ensures rows { IsTrue result ↔ gives self.now terms.now.terms earlier.now below detail.now clause.now }
         ensures room { scratch.new ≡ scratch.old };
 
     /// A clause that a row gives is true wherever the earlier ones are.
@@ -133,7 +133,7 @@ pub trait Rule {
 /// Whether a row of the rule gives the clause; where one does, the clause follows.
 pub fn conclude<R: Rule>(
     rule: &R,
-    terms: &TermList,
+    terms: &Bank,
     earlier: &Clauses,
     below: usize,
     detail: &R::Data,
@@ -141,11 +141,11 @@ pub fn conclude<R: Rule>(
     scratch: &mut Scratch,
 ) -> bool
     requires below { below ≤ length earlier.now.list.items }
-    requires within { AreWithin (length terms.now) earlier.now.list.items }
-    requires clause_within { IsWithin (length terms.now) clause.now }
-    requires room { scratch.old ≡ length terms.now }
-    ensures rows { IsTrue result ↔ R.gives rule.now terms.now earlier.now below detail.now clause.now }
-    ensures follows { IsTrue result → IsConsequence terms.now earlier.now.root earlier.now.list.items below clause.now }
+    requires within { AreWithin (length terms.now.terms) earlier.now.list.items }
+    requires clause_within { IsWithin (length terms.now.terms) clause.now }
+    requires room { scratch.old ≡ length terms.now.terms }
+    ensures rows { IsTrue result ↔ R.gives rule.now terms.now.terms earlier.now below detail.now clause.now }
+    ensures follows { IsTrue result → IsConsequence terms.now.terms earlier.now.root earlier.now.list.items below clause.now }
     ensures room { scratch.new ≡ scratch.old }
 {
     rule.concludes(terms, earlier, below, detail, clause, scratch)

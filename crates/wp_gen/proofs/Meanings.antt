@@ -6,8 +6,8 @@ use Rattle.terms.specs.declared.term.Term.{Term}
 use Rattle.terms.specs.declared.term.Kind.{Kind}
 use Rattle.terms.specs.declared.term.Kind.TheVariants as k
 use Rattle.terms.specs.Formula.{Formula, leaf, unary, binary, term, Stands}
-use Rattle.terms.specs.Meaning.{Env, Value, IntValue, truth, number as int_of, Means, IsValuation}
-use Rattle.terms.proofs.Valuations.{decide}
+use Rattle.term_eval.specs.Meaning.{Env, Value, IntValue, truth, number as int_of, Means, IsValuation}
+use Rattle.term_eval.proofs.Valuations.{decide}
 use Rattle.first_form.specs.declared.tree.Operand.{Operand}
 use Rattle.first_form.specs.declared.tree.Operand.TheVariants as o
 use Rattle.first_form.specs.declared.tree.Comparison.{Comparison}
@@ -109,7 +109,7 @@ constant args (pos i) = get_or args i (pos 0)
 constant args (negsuc i) = pos 0
 
 abbrev pub env_of : List ℤ → Env
-env_of args = record { integers = constant args; heaps = λ n. empty_heap; good = λ h. true }
+env_of args = record { integers = constant args; heaps = λ n. empty_heap; good = λ h. true; other = λ k n xs. IntValue (pos 0) }
 
 pub counts_number : (e : Env) (n : ℤ) → Counts e (number n) n
 counts_number e n ts v id valued s = leaf_at e ts v id k.Int n valued s

@@ -2,9 +2,9 @@
 use Rattle.std.specs.Prelude.{◌≡◌, ℕ, List, Some, slice_get}
 use Rattle.first_form.specs.Tree.{Prog}
 use Rattle.terms.specs.declared.term.Term.{Term}
-use Rattle.terms.specs.TermList.{IsTermList}
+use Rattle.term_bank.specs.Bank.{IsBank}
 use Rattle.terms.specs.Formula.{Formula, Stands}
-use Rattle.terms.specs.Meaning.{IsAlwaysTrue}
+use Rattle.term_eval.specs.Meaning.{IsAlwaysTrue}
 use Rattle.ref_machine.specs.Safe.{Safe}
 use Rattle.wp_gen.specs.Conditions.{conditions}
 
@@ -12,7 +12,7 @@ use Rattle.wp_gen.specs.Conditions.{conditions}
 pub record IsValid (f : Formula) : Type 0 where
   pub terms : List Term
   pub root : ℕ
-  pub is : IsTermList terms
+  pub is : IsBank terms
   pub stands : Stands terms root f
   pub always : IsAlwaysTrue terms root
 

@@ -11,13 +11,13 @@ use crate::number::{good_entry, intern, joined, test};
 use crate::walk::{Check, Fact, walk};
 use first_form::tree::{Clause, Program};
 use std::alloc::{AllocError, Global};
-use terms::list::TermList;
+use term_bank::bank::Bank;
 use terms::term::Kind;
 
 /// The terms of a condition, and the number of the one that has to be true.
 #[derive(Debug, Drop)]
 pub struct Condition {
-    pub terms: TermList,
+    pub terms: Bank,
     pub root: u32,
 }
 
@@ -69,10 +69,10 @@ fn push_clauses<'a>(facts: &mut Vec<Fact<'a>>, clauses: &'a [Clause]) -> Result<
 /// The terms of the condition that a check gives.
 #[tactic(auto, using(crate::proofs::Joining::numbered_condition))]
 pub fn condition_of(alloc: Global, check: &Check<'_>) -> Result<Condition, AllocError>
-    ensures numbered { IfOk result (λ x. Numbered (conditions.condition (check_of check.now)) [] x.terms x.root) }
-    ensures within { IfOk result (λ x. x.root < length x.terms) }
+    ensures numbered { IfOk result (λ x. Numbered (conditions.condition (check_of check.now)) [] x.terms.terms x.root) }
+    ensures within { IfOk result (λ x. x.root < length x.terms.terms) }
 {
-    let mut terms = TermList::new(alloc);
+    let mut terms = Bank::new(alloc);
     let good = good_entry(alloc, &mut terms)?;
     let facts = joined(alloc, &mut terms, good, &check.facts)?;
     let claim = test(alloc, &mut terms, check.test)?;

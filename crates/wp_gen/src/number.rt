@@ -10,7 +10,7 @@ ghost use Rattle.wp_gen.specs.Facts.{formula_of, Folds, Joins};
 use crate::walk::Fact;
 use first_form::tree::{Comparison, Operand, Stmt, Test};
 use std::alloc::{AllocError, Global};
-use terms::list::TermList;
+use term_bank::bank::Bank;
 use terms::term::{Args, Kind, Term};
 
 /// The range of `int`, which has 32 bits.
@@ -18,28 +18,32 @@ const LEAST_INT: i128 = -2_147_483_648;
 
 const GREATEST_INT: i128 = 2_147_483_647;
 
-/// The number of a term, old or new.
+/// The number of a term, old or new. More terms than a bank holds are answered as want of memory.
 pub fn intern(
     alloc: Global,
-    terms: &mut TermList,
+    terms: &mut Bank,
     kind: Kind,
     index: i128,
     args: &[u32],
 ) -> Result<u32, AllocError>
-    requires { All (λ a. a < length terms.old) args.now }
-    ensures interned { IfOk result (λ id. Interns terms.old (term kind index args.now) terms.new id) }
-    ensures within { IfOk result (λ id. id < length terms.new) }
-    ensures grows { length terms.old ≤ length terms.new }
+    requires { All (λ a. a < length terms.old.terms) args.now }
+    ensures interned { IfOk result (λ id. Interns terms.old.terms (term kind index args.now) terms.new.terms id) }
+    ensures within { IfOk result (λ id. id < length terms.new.terms) }
+    ensures grows { length terms.old.terms ≤ length terms.new.terms }
 {
     let args = Args::new(alloc, args)?;
-    terms.intern(Term { kind, index, args })
+    let node = Term { kind, index, args };
+    match terms.intern(&node) {
+        Ok(id) => Ok(id),
+        Err(_) => Err(AllocError),
+    }
 }
 
 #[tactic(auto, using(terms::proofs::Numbering::numbered_leaf, terms::proofs::Numbering::numbered_unary, terms::proofs::Numbering::numbered_binary))]
-fn constant(alloc: Global, terms: &mut TermList, kind: Kind, index: i128) -> Result<u32, AllocError>
-    ensures numbered { IfOk result (λ id. Numbered (leaf kind index) terms.old terms.new id) }
-    ensures within { IfOk result (λ id. id < length terms.new) }
-    ensures grows { length terms.old ≤ length terms.new }
+fn constant(alloc: Global, terms: &mut Bank, kind: Kind, index: i128) -> Result<u32, AllocError>
+    ensures numbered { IfOk result (λ id. Numbered (leaf kind index) terms.old.terms terms.new.terms id) }
+    ensures within { IfOk result (λ id. id < length terms.new.terms) }
+    ensures grows { length terms.old.terms ≤ length terms.new.terms }
 {
     let id = intern(alloc, terms, kind, index, &[])?;
     Ok(id)
@@ -52,10 +56,10 @@ fn wide(n: u32) -> i128
     i128::from(n)
 }
 
-fn operand(alloc: Global, terms: &mut TermList, operand: Operand) -> Result<u32, AllocError>
-    ensures numbered { IfOk result (λ id. Numbered (spec.operand operand) terms.old terms.new id) }
-    ensures within { IfOk result (λ id. id < length terms.new) }
-    ensures grows { length terms.old ≤ length terms.new }
+fn operand(alloc: Global, terms: &mut Bank, operand: Operand) -> Result<u32, AllocError>
+    ensures numbered { IfOk result (λ id. Numbered (spec.operand operand) terms.old.terms terms.new.terms id) }
+    ensures within { IfOk result (λ id. id < length terms.new.terms) }
+    ensures grows { length terms.old.terms ≤ length terms.new.terms }
 {
     match operand {
         Operand::Parameter(i) => {
@@ -73,14 +77,14 @@ fn operand(alloc: Global, terms: &mut TermList, operand: Operand) -> Result<u32,
 #[tactic(auto, using(terms::proofs::Numbering::numbered_leaf, terms::proofs::Numbering::numbered_unary, terms::proofs::Numbering::numbered_binary))]
 fn comparison(
     alloc: Global,
-    terms: &mut TermList,
+    terms: &mut Bank,
     comparison: Comparison,
     left: Operand,
     right: Operand,
 ) -> Result<u32, AllocError>
-    ensures numbered { IfOk result (λ id. Numbered (spec.comparison comparison (spec.operand left) (spec.operand right)) terms.old terms.new id) }
-    ensures within { IfOk result (λ id. id < length terms.new) }
-    ensures grows { length terms.old ≤ length terms.new }
+    ensures numbered { IfOk result (λ id. Numbered (spec.comparison comparison (spec.operand left) (spec.operand right)) terms.old.terms terms.new.terms id) }
+    ensures within { IfOk result (λ id. id < length terms.new.terms) }
+    ensures grows { length terms.old.terms ≤ length terms.new.terms }
 {
     let left = operand(alloc, terms, left)?;
     let right = operand(alloc, terms, right)?;
@@ -96,10 +100,10 @@ fn comparison(
 
 /// A test.
 #[tactic(auto, using(terms::proofs::Numbering::numbered_leaf, terms::proofs::Numbering::numbered_unary, terms::proofs::Numbering::numbered_binary))]
-pub fn test(alloc: Global, terms: &mut TermList, t: &Test) -> Result<u32, AllocError>
-    ensures numbered { IfOk result (λ id. Numbered (spec.test (bool_exp t.now)) terms.old terms.new id) }
-    ensures within { IfOk result (λ id. id < length terms.new) }
-    ensures grows { length terms.old ≤ length terms.new }
+pub fn test(alloc: Global, terms: &mut Bank, t: &Test) -> Result<u32, AllocError>
+    ensures numbered { IfOk result (λ id. Numbered (spec.test (bool_exp t.now)) terms.old.terms terms.new.terms id) }
+    ensures within { IfOk result (λ id. id < length terms.new.terms) }
+    ensures grows { length terms.old.terms ≤ length terms.new.terms }
 {
     match t {
         Test::Compare(operator, left, right) => {
@@ -131,10 +135,10 @@ pub fn test(alloc: Global, terms: &mut TermList, t: &Test) -> Result<u32, AllocE
 }
 
 #[tactic(auto, using(terms::proofs::Numbering::numbered_unary))]
-fn negated_test(alloc: Global, terms: &mut TermList, t: &Test) -> Result<u32, AllocError>
-    ensures numbered { IfOk result (λ id. Numbered (spec.negation (spec.test (bool_exp t.now))) terms.old terms.new id) }
-    ensures within { IfOk result (λ id. id < length terms.new) }
-    ensures grows { length terms.old ≤ length terms.new }
+fn negated_test(alloc: Global, terms: &mut Bank, t: &Test) -> Result<u32, AllocError>
+    ensures numbered { IfOk result (λ id. Numbered (spec.negation (spec.test (bool_exp t.now))) terms.old.terms terms.new.terms id) }
+    ensures within { IfOk result (λ id. id < length terms.new.terms) }
+    ensures grows { length terms.old.terms ≤ length terms.new.terms }
 {
     let inner = test(alloc, terms, t)?;
     let id = intern(alloc, terms, Kind::Not, 0, &[inner])?;
@@ -142,12 +146,12 @@ fn negated_test(alloc: Global, terms: &mut TermList, t: &Test) -> Result<u32, Al
 }
 
 /// The conjunction of terms, which groups to the right.
-fn conjunction(alloc: Global, terms: &mut TermList, ids: &[u32]) -> Result<u32, AllocError>
+fn conjunction(alloc: Global, terms: &mut Bank, ids: &[u32]) -> Result<u32, AllocError>
     requires some { 0 < length ids.now }
-    requires within { All (λ a. a < length terms.old) ids.now }
-    ensures folds { IfOk result (λ id. Folds ids.now terms.old terms.new id) }
-    ensures within { IfOk result (λ id. id < length terms.new) }
-    ensures grows { length terms.old ≤ length terms.new }
+    requires within { All (λ a. a < length terms.old.terms) ids.now }
+    ensures folds { IfOk result (λ id. Folds ids.now terms.old.terms terms.new.terms id) }
+    ensures within { IfOk result (λ id. id < length terms.new.terms) }
+    ensures grows { length terms.old.terms ≤ length terms.new.terms }
 {
     let mut i = ids.len() - 1;
     let mut id = ids[i];
@@ -160,10 +164,10 @@ fn conjunction(alloc: Global, terms: &mut TermList, ids: &[u32]) -> Result<u32, 
 
 /// What holds behind a statement.
 #[cycle(behind)]
-fn behind(alloc: Global, terms: &mut TermList, stmt: &Stmt) -> Result<u32, AllocError>
-    ensures numbered { IfOk result (λ id. Numbered (spec.fact_behind (stm stmt.now)) terms.old terms.new id) }
-    ensures within { IfOk result (λ id. id < length terms.new) }
-    ensures grows { length terms.old ≤ length terms.new }
+fn behind(alloc: Global, terms: &mut Bank, stmt: &Stmt) -> Result<u32, AllocError>
+    ensures numbered { IfOk result (λ id. Numbered (spec.fact_behind (stm stmt.now)) terms.old.terms terms.new.terms id) }
+    ensures within { IfOk result (λ id. id < length terms.new.terms) }
+    ensures grows { length terms.old.terms ≤ length terms.new.terms }
 {
     match stmt {
         Stmt::Assert(_, t) => {
@@ -183,16 +187,11 @@ fn behind(alloc: Global, terms: &mut TermList, stmt: &Stmt) -> Result<u32, Alloc
 
 /// What holds behind a branch whose test has this number.
 #[cycle(behind)]
-fn branch(
-    alloc: Global,
-    terms: &mut TermList,
-    first: u32,
-    stmts: &[Stmt],
-) -> Result<u32, AllocError>
-    requires { first < length terms.old }
-    ensures joins { IfOk result (λ id. Joins (spec.facts_behind (stms stmts.now)) first terms.old terms.new id) }
-    ensures within { IfOk result (λ id. id < length terms.new) }
-    ensures grows { length terms.old ≤ length terms.new }
+fn branch(alloc: Global, terms: &mut Bank, first: u32, stmts: &[Stmt]) -> Result<u32, AllocError>
+    requires { first < length terms.old.terms }
+    ensures joins { IfOk result (λ id. Joins (spec.facts_behind (stms stmts.now)) first terms.old.terms terms.new.terms id) }
+    ensures within { IfOk result (λ id. id < length terms.new.terms) }
+    ensures grows { length terms.old.terms ≤ length terms.new.terms }
 {
     let mut ids = Vec::new(alloc);
     ids.push(first)?;
@@ -206,10 +205,10 @@ fn branch(
 
 /// The heap at entry is good.
 #[tactic(auto, using(terms::proofs::Numbering::numbered_unary))]
-pub fn good_entry(alloc: Global, terms: &mut TermList) -> Result<u32, AllocError>
-    ensures numbered { IfOk result (λ id. Numbered spec.good_entry terms.old terms.new id) }
-    ensures within { IfOk result (λ id. id < length terms.new) }
-    ensures grows { length terms.old ≤ length terms.new }
+pub fn good_entry(alloc: Global, terms: &mut Bank) -> Result<u32, AllocError>
+    ensures numbered { IfOk result (λ id. Numbered spec.good_entry terms.old.terms terms.new.terms id) }
+    ensures within { IfOk result (λ id. id < length terms.new.terms) }
+    ensures grows { length terms.old.terms ≤ length terms.new.terms }
 {
     let heap = constant(alloc, terms, Kind::Ch, 0)?;
     let id = intern(alloc, terms, Kind::Good, 0, &[heap])?;
@@ -218,10 +217,10 @@ pub fn good_entry(alloc: Global, terms: &mut TermList) -> Result<u32, AllocError
 
 /// A fact.
 #[tactic(auto, using(terms::proofs::Numbering::numbered_binary))]
-fn fact(alloc: Global, terms: &mut TermList, fact: Fact<'_>) -> Result<u32, AllocError>
-    ensures numbered { IfOk result (λ id. Numbered (formula_of fact.entry) terms.old terms.new id) }
-    ensures within { IfOk result (λ id. id < length terms.new) }
-    ensures grows { length terms.old ≤ length terms.new }
+fn fact(alloc: Global, terms: &mut Bank, fact: Fact<'_>) -> Result<u32, AllocError>
+    ensures numbered { IfOk result (λ id. Numbered (formula_of fact.entry) terms.old.terms terms.new.terms id) }
+    ensures within { IfOk result (λ id. id < length terms.new.terms) }
+    ensures grows { length terms.old.terms ≤ length terms.new.terms }
 {
     match fact {
         Fact::AtLeast(i) => {
@@ -254,14 +253,14 @@ fn fact(alloc: Global, terms: &mut TermList, fact: Fact<'_>) -> Result<u32, Allo
 /// The facts joined to a first one, which has this number.
 pub fn joined(
     alloc: Global,
-    terms: &mut TermList,
+    terms: &mut Bank,
     first: u32,
     facts: &[Fact<'_>],
 ) -> Result<u32, AllocError>
-    requires { first < length terms.old }
-    ensures joins { IfOk result (λ id. Joins (map formula_of facts.now) first terms.old terms.new id) }
-    ensures within { IfOk result (λ id. id < length terms.new) }
-    ensures grows { length terms.old ≤ length terms.new }
+    requires { first < length terms.old.terms }
+    ensures joins { IfOk result (λ id. Joins (map formula_of facts.now) first terms.old.terms terms.new.terms id) }
+    ensures within { IfOk result (λ id. id < length terms.new.terms) }
+    ensures grows { length terms.old.terms ≤ length terms.new.terms }
 {
     let mut ids = Vec::new(alloc);
     ids.push(first)?;

@@ -98,6 +98,7 @@ fn name(kind: Kind) -> &'static str {
         Kind::Eq => "eq",
         Kind::Le => "le",
         Kind::Good => "good",
+        _ => "other",
     }
 }
 

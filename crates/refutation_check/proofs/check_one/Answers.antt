@@ -6,4 +6,4 @@ use Rattle.refutation_check.proofs.check_one.Goals as goal
 
 pub returns-clause-always : goal.returns-clause-always
 returns-clause-always c = λ holds.
-    refutes c.args.terms.now c.args.root c.steps-steps.result.now (let exact = c.is_refutation-follows.ensures.exact c.args.root c.in_ok-clauses.ensures.root in exact.0 holds)
+    refutes c.args.terms.now.terms c.args.root c.steps-steps.result.now (let exact = c.is_refutation-follows.ensures.exact c.args.root c.in_ok-clauses.ensures.root in exact.0 holds)

@@ -1,6 +1,7 @@
 use Rattle.std.proofs.Common.{[], List, ℕ, subst, sym}
 use Rattle.terms.specs.declared.term.Term.{Term}
-use Rattle.terms.proofs.Numbering.{numbers_stand, numbered_same}
+use Rattle.terms.proofs.Numbering.{numbers_stand}
+use Rattle.term_bank.proofs.Trees.{numbered_same}
 use Rattle.refutation_check.specs.Follows.{Follows}
 use Rattle.wp_gen.specs.Facts.{check_of}
 use Rattle.wp_gen.specs.Conditions.{condition}
@@ -8,17 +9,17 @@ use Rattle.vcc_cli.proofs.judge.follows.Goals as goal
 
 pub returns-clause-valid : goal.returns-clause-valid
 returns-clause-valid c = λ yes. record {
-  terms = c.in_ok-condition.condition.terms;
+  terms = c.in_ok-condition.condition.terms.terms;
   root = c.in_ok-condition.condition.root;
   is = c.known.ensures;
-  stands = (let p = numbers_stand (condition (check_of c.args.check.now)) [] c.in_ok-condition.condition.terms c.in_ok-condition.condition.root c.in_ok-condition.ensures.numbered.is in p.1);
+  stands = (let p = numbers_stand (condition (check_of c.args.check.now)) [] c.in_ok-condition.condition.terms.terms c.in_ok-condition.condition.root c.in_ok-condition.ensures.numbered.is in p.1);
   always = c.in_ok-yes.ensures.always yes;
 }
 
 pub returns-clause-follows : goal.returns-clause-follows
 returns-clause-follows c = (
-  (λ yes. record { terms = c.in_ok-condition.condition.terms; root = c.in_ok-condition.condition.root; numbered = c.in_ok-condition.ensures.numbered; follows = c.in_ok-yes.ensures.exact.0 yes }),
+  (λ yes. record { terms = c.in_ok-condition.condition.terms.terms; root = c.in_ok-condition.condition.root; numbered = c.in_ok-condition.ensures.numbered; follows = c.in_ok-yes.ensures.exact.0 yes }),
   (λ f.
-      let same = numbered_same (condition (check_of c.args.check.now)) [] c.in_ok-condition.condition.terms f.terms c.in_ok-condition.condition.root f.root c.known.ensures c.in_ok-condition.ensures.numbered f.numbered in
+      let same = numbered_same (condition (check_of c.args.check.now)) [] c.in_ok-condition.condition.terms.terms f.terms c.in_ok-condition.condition.root f.root c.known.ensures c.in_ok-condition.ensures.numbered f.numbered in
       c.in_ok-yes.ensures.exact.1 (subst (λ (ts : List Term). Follows ts c.in_ok-condition.condition.root c.args.block.now) (sym same.0) (subst (λ (r : ℕ). Follows f.terms r c.args.block.now) (sym same.1) f.follows))),
 )

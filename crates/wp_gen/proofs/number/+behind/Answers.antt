@@ -9,7 +9,7 @@ pub behind-returns-in_ok-id-in-If-clause-numbered :
     goal.behind-returns-in_ok-id-in-If-clause-numbered
 behind-returns-in_ok-id-in-If-clause-numbered t c =
     let shown = ap stm c.in-If.is ∙ shown_if c.in-If.field-0 c.in-If.t c.in-If.then c.in-If.otherwise in
-    subst (λ (a : Stm). Numbered (fact_behind a) c.args.terms.now c.intern.new.terms c.in_ok-id-in-If.id) (sym shown)
+    subst (λ (a : Stm). Numbered (fact_behind a) c.args.terms.now.terms c.intern.new.terms.terms c.in_ok-id-in-If.id) (sym shown)
     (numbered_if c.in-If.field-0 (bool_exp c.in-If.t) (stms c.in-If.then.items) (stms c.in-If.otherwise.items) _ _ _ _ _ _ _ _ _ _ _
     c.in_ok-yes-in-If.ensures.numbered
     (rw (← c.deref.ensures.value) c.in_ok-left-in-If.ensures.joins)
@@ -21,10 +21,10 @@ pub branch-loop-stmt-preserved : goal.branch-loop-stmt-preserved
 branch-loop-stmt-preserved t c =
     let pushed = c.in_ok-push-2.ensures.items in
     record {
-      within = rw pushed (within_push c.loop-stmt.ids.items c.in_ok-id.id (length c.loop-stmt.terms) (length c.behind.new.terms) c.loop-stmt.invariant.within c.in_ok-id.ensures.grows c.in_ok-id.ensures.within);
+      within = rw pushed (within_push c.loop-stmt.ids.items c.in_ok-id.id (length c.loop-stmt.terms.terms) (length c.behind.new.terms.terms) c.loop-stmt.invariant.within c.in_ok-id.ensures.grows c.in_ok-id.ensures.within);
       grows = omega (arith, c.loop-stmt.invariant.grows, c.in_ok-id.ensures.grows);
       others = c.loop-stmt.invariant.others ++ c.in_ok-id.id ∷ [];
       is = pushed ∙ ap (λ (xs : List ℕ). xs ++ c.in_ok-id.id ∷ []) c.loop-stmt.invariant.is;
-      numbered = stmts_numbered c.args.stmts.now c.loop-stmt.stmt-index c.stmt-item.result c.args.terms.now c.loop-stmt.terms c.behind.new.terms c.loop-stmt.invariant.others c.in_ok-id.id
+      numbered = stmts_numbered c.args.stmts.now c.loop-stmt.stmt-index c.stmt-item.result c.args.terms.now.terms c.loop-stmt.terms.terms c.behind.new.terms.terms c.loop-stmt.invariant.others c.in_ok-id.id
           c.loop-stmt-test.true c.stmt-item.is c.loop-stmt.invariant.numbered c.in_ok-id.ensures.numbered;
     }

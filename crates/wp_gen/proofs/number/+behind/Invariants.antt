@@ -6,9 +6,9 @@ use Rattle.wp_gen.proofs.number.+behind.Given as goal
 
 abbrev pub invariant-branch-loop-stmt : goal.invariant-branch-loop-stmt
 invariant-branch-loop-stmt l = record {
-  within : All (λ a. a < length l.terms) l.ids.items;
-  grows : length l.fn.terms ≤ length l.terms;
+  within : All (λ a. a < length l.terms.terms) l.ids.items;
+  grows : length l.fn.terms.terms ≤ length l.terms.terms;
   others : List ℕ;
   is : l.ids.items ≡ l.first ∷ others;
-  numbered : ListNumbered (facts_behind (stms (take l.stmt-index l.stmts))) l.fn.terms l.terms others;
+  numbered : ListNumbered (facts_behind (stms (take l.stmt-index l.stmts))) l.fn.terms.terms l.terms.terms others;
 }

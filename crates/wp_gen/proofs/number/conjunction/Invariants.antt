@@ -5,9 +5,9 @@ use Rattle.wp_gen.proofs.number.conjunction.Given as goal
 abbrev pub invariant-loop-i : goal.invariant-loop-i
 invariant-loop-i l = record {
   left : l.i < length l.ids;
-  within : l.id < length l.terms;
-  grows : length l.fn.terms ≤ length l.terms;
-  folds : Folds (drop l.i l.ids) l.fn.terms l.terms l.id;
+  within : l.id < length l.terms.terms;
+  grows : length l.fn.terms.terms ≤ length l.terms.terms;
+  folds : Folds (drop l.i l.ids) l.fn.terms.terms l.terms.terms l.id;
 }
 
 abbrev pub decreases-loop-i : goal.decreases-loop-i

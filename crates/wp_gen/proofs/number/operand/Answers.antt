@@ -9,9 +9,9 @@ pub returns-in_ok-id-in-Parameter-clause-numbered :
     goal.returns-in_ok-id-in-Parameter-clause-numbered
 returns-in_ok-id-in-Parameter-clause-numbered c =
     rw c.in-Parameter.is
-    (subst (λ (n : ℤ). Numbered (leaf Ci n) c.args.terms.now c.constant.new.terms c.in_ok-id-in-Parameter.id) (to_z-of_z w128 c.wide.result c.wide.ensures.fits ∙ c.wide.ensures.value) c.in_ok-id-in-Parameter.ensures.numbered)
+    (subst (λ (n : ℤ). Numbered (leaf Ci n) c.args.terms.now.terms c.constant.new.terms.terms c.in_ok-id-in-Parameter.id) (to_z-of_z w128 c.wide.result c.wide.ensures.fits ∙ c.wide.ensures.value) c.in_ok-id-in-Parameter.ensures.numbered)
 
 pub returns-in_ok-id-in-Number-clause-numbered : goal.returns-in_ok-id-in-Number-clause-numbered
 returns-in_ok-id-in-Number-clause-numbered c =
     rw c.in-Number.is
-    (subst (λ (n : ℤ). Numbered (leaf Int n) c.args.terms.now c.constant-in-Number.new.terms c.in_ok-id-in-Number.id) (to_z-of_z w128 c.wide-in-Number.result c.wide-in-Number.ensures.fits ∙ c.wide-in-Number.ensures.value) c.in_ok-id-in-Number.ensures.numbered)
+    (subst (λ (n : ℤ). Numbered (leaf Int n) c.args.terms.now.terms c.constant-in-Number.new.terms.terms c.in_ok-id-in-Number.id) (to_z-of_z w128 c.wide-in-Number.result c.wide-in-Number.ensures.fits ∙ c.wide-in-Number.ensures.value) c.in_ok-id-in-Number.ensures.numbered)

@@ -1,0 +1,14 @@
+pub mod Words
+pub mod Numbers
+pub mod Tokens
+pub mod Lexing
+pub mod Expressions
+pub mod Ghosts
+pub mod Statements
+pub mod Items
+pub mod Classes
+pub mod Grammar
+pub mod Language
+pub mod Readable
+pub mod Laws
+pub mod Rows

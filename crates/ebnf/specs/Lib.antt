@@ -1,0 +1,16 @@
+pub mod Rules
+pub mod Sets
+pub mod Derives
+pub mod Reading
+pub mod Tools
+pub mod Flat
+pub mod Sound
+pub mod Opens
+pub mod Moves
+pub mod Complete
+pub mod Refutes
+pub mod Fronts
+pub mod Gather
+pub mod Starts
+pub mod Stuck
+pub mod Verdict

@@ -1,0 +1,7 @@
+//! Terms in which no term stands twice, by their numbers.
+#![tactic(auto)]
+
+pub mod bank;
+pub mod law;
+#[cfg(test)]
+mod tests;

@@ -1,0 +1,7 @@
+//! Environments, and what terms mean in them.
+#![tactic(auto)]
+
+pub mod literal;
+pub mod meaning;
+#[cfg(test)]
+mod tests;

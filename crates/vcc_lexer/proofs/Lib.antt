@@ -1,0 +1,15 @@
+pub mod Places
+pub mod Lists
+pub mod WordTables
+pub mod SignTables
+pub mod SignChoice
+pub mod Suffixes
+pub mod Runs
+pub mod DigitValues
+pub mod Forms
+pub mod Shapes
+pub mod Skipping
+pub mod Longest
+pub mod Determined
+pub mod Reading
+pub mod Slices
