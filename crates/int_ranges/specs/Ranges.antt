@@ -1,5 +1,5 @@
 -- The integer types and their ranges. From ISO/IEC 9899 6.2.5 and 6.3.1.8. Own: 32 and 64 bits.
-use Rattle.std.specs.Prelude.{ℤ, pos, negsuc, ◌≤ℤ◌}
+use Rattle.std.specs.Prelude.{Bool, ◌&&◌, ℤ, pos, negsuc, ◌≤ℤ◌, int_le}
 use Rattle.int_ranges.specs.declared.ctype.CType.{CType}
 use Rattle.int_ranges.specs.declared.ctype.CType.TheVariants.{Int, Unsigned, LongLong, UnsignedLongLong}
 
@@ -18,6 +18,10 @@ greatest_of UnsignedLongLong = pos 18446744073709551615
 -- the type has the value
 abbrev pub InRange : CType → ℤ → Type 0
 InRange ty value = (least_of ty ≤ℤ value) × (value ≤ℤ greatest_of ty)
+
+-- the same as a test
+abbrev pub in_range : CType → ℤ → Bool
+in_range ty value = int_le (least_of ty) value && int_le value (greatest_of ty)
 
 -- The usual arithmetic conversions: any with `unsigned long long` gives that, otherwise any with `long long` that, otherwise any with `unsigned` that.
 abbrev pub usual_type : CType → CType → CType

@@ -1,5 +1,5 @@
 -- References. From CAV 2010: objects, threads and claims are all named by references. Own: a type number and a serial.
-use Rattle.std.specs.Prelude.{ℕ, Bool, ◌&&◌, ◌||◌, ◌==◌, nat_lt}
+use Rattle.std.specs.Prelude.{ℕ, Bool, not, ◌&&◌, ◌||◌, ◌==◌, nat_lt}
 use Rattle.object_types.specs.declared.references.Ref.{Ref}
 
 abbrev pub ref : ℕ → ℕ → Ref
@@ -7,6 +7,10 @@ ref ty serial = record { ty = ty; serial = serial }
 
 abbrev pub null : Ref
 null = ref 0 0
+
+-- of the type number 0 there is NULL alone
+abbrev pub is_reference : Ref → Bool
+is_reference r = not (r.ty == 0) || (r.serial == 0)
 
 -- the reference of thread t
 abbrev pub thread : ℕ → Ref
