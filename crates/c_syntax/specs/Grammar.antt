@@ -1,5 +1,5 @@
 -- The grammar. From ISO/IEC 9899 6.5 to 6.9 for C, and from the VCC manual for what stands behind `_(`; own: `vcc_spawn`, and what of C is left out. A row is a production, its parts from left to right; the function at its end builds the tree, and takes the parts' values from right to left.
-use Rattle.std.specs.Prelude.{◌⊎◌, ℕ, Bool, true, false, List, [], ◌∷◌, Option, Some, None}
+use Rattle.std.specs.Prelude.{◌⊎◌, ℕ, Bool, true, false, List, [], ◌∷◌, ◌++◌, Option, Some, None}
 use Rattle.std.proofs.Common.{inl, inr}
 use Rattle.int_ranges.specs.declared.ctype.CType.TheVariants as c
 use Rattle.ebnf.specs.Rules.{Part, token, below, nothing, row, by_value, by_next, many, until, Rule, form, pick, chain, climb}
@@ -742,11 +742,7 @@ attribute_list = word (sign s.Annotation) ▷ list attribute ▷ word (sign s.Cl
 
 abbrev concat : List (List Attribute) → List Attribute
 concat [] = []
-concat (xs ∷ xss) = joined xs (concat xss)
-  where
-    joined : List Attribute → List Attribute → List Attribute
-    joined [] ys = ys
-    joined (x ∷ xs) ys = x ∷ joined xs ys
+concat (xs ∷ xss) = xs ++ concat xss
 
 -- a struct behind its name
 abbrev struct_behind : P (Id → Span → List Attribute → StructTree)

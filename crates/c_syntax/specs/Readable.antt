@@ -1,6 +1,7 @@
 -- The language can be read from left to right by one token: each rule suits its neighbours, and the tables say of each rule what holds of it.
 use Rattle.std.proofs.Common.{◌≡◌, ◌⊎◌, inl, inr, ⊎_elim, ℕ, zero, suc, Bool, true, false, List, [], ◌∷◌, refl, ap, sym, ◌∙◌, subst, arith}
 use Rattle.std.specs.Prelude.{◌&&◌, not, ◌==◌, nat_lt, slice_index_or}
+use Rattle.std.specs.List.{list_all}
 use Rattle.ebnf.specs.Rules.{token, below, nothing, row, by_value, by_next, many, until, form, pick, chain, climb}
 use Rattle.ebnf.specs.Sets.{PartOf, RuleOf, has, low, low_rule, first, first_rule, more, more_rule, is_empty, is_flat, is_predictive, is_predictive_rule, leads, leads_rule}
 use Rattle.ebnf.specs.Derives.{Derives, DerivesRule, Within, IsPhrase}
@@ -23,14 +24,10 @@ levels m = Level m Prefix ∷ Level m Product ∷ Level m Sum ∷ Level m Order 
 abbrev others : List N
 others = Unnamed ∷ Start ∷ NamePlace ∷ OtherPlace ∷ AnyPlace ∷ GhostName ∷ GhostOther ∷ SetStart ∷ OwnedSet ∷ InterlockedCall ∷ Allocation ∷ GhostArgument ∷ Assigned ∷ MakeClaim ∷ GhostBody ∷ GhostStatement ∷ BlockOf ∷ Statement ∷ LoopItem ∷ WritesOf ∷ ClauseOf ∷ MemberOf ∷ ItemOf ∷ Program ∷ []
 
-abbrev all : (N → Bool) → List N → Bool
-all f [] = true
-all f (n ∷ ns) = f n && all f ns
-
 abbrev every : (N → Bool) → Bool
-every f = all f (levels Code) && (all f (levels InSpec) && all f others)
+every f = list_all f (levels Code) && (list_all f (levels InSpec) && list_all f others)
 
-at : (f : N → Bool) (ns : List N) (i : ℕ) (d : N) → all f ns ≡ true → f d ≡ true → f (slice_index_or ns i d) ≡ true
+at : (f : N → Bool) (ns : List N) (i : ℕ) (d : N) → list_all f ns ≡ true → f d ≡ true → f (slice_index_or ns i d) ≡ true
 at f [] i d h k = k
 at f (n ∷ ns) zero d h k = and_left (f n) _ h
 at f (n ∷ ns) (suc i) d h k = at f ns i d (and_right (f n) _ h) k
@@ -38,8 +35,8 @@ at f (n ∷ ns) (suc i) d h k = at f ns i d (and_right (f n) _ h) k
 each : (f : N → Bool) → every f ≡ true → (n : N) → f n ≡ true
 each f h n = go n
   where
-    rest : all f others ≡ true
-    rest = and_right (all f (levels InSpec)) _ (and_right (all f (levels Code)) _ h)
+    rest : list_all f others ≡ true
+    rest = and_right (list_all f (levels InSpec)) _ (and_right (list_all f (levels Code)) _ h)
 
     last : f Program ≡ true
     last = at f others 23 (Unnamed) rest (and_left (f Unnamed) _ rest)
@@ -47,9 +44,9 @@ each f h n = go n
     other : (i : ℕ) → f (slice_index_or others i Program) ≡ true
     other i = at f others i Program rest last
 
-    level : (m : Mode) → all f (levels m) ≡ true
-    level Code = and_left (all f (levels Code)) _ h
-    level InSpec = and_left (all f (levels InSpec)) _ (and_right (all f (levels Code)) _ h)
+    level : (m : Mode) → list_all f (levels m) ≡ true
+    level Code = and_left (list_all f (levels Code)) _ h
+    level InSpec = and_left (list_all f (levels InSpec)) _ (and_right (list_all f (levels Code)) _ h)
 
     tier : (m : Mode) (i : ℕ) → f (slice_index_or (levels m) i Program) ≡ true
     tier m i = at f (levels m) i Program (level m) last

@@ -1,5 +1,6 @@
 -- Worked rows: texts, as tokens, with how high their item is, or with the first token that doesn't go on.
-use Rattle.std.specs.Prelude.{ℕ, zero, suc, ◌+◌, Bool, true, false, ◌&&◌, ◌==◌, List, [], ◌∷◌, ◌++◌, length, Result, Ok, Err}
+use Rattle.std.specs.Prelude.{ℕ, suc, ◌+◌, Bool, true, false, ◌&&◌, ◌==◌, List, [], ◌∷◌, ◌++◌, length, replicate, Result, Ok, Err}
+use Rattle.std.specs.List.{list_all}
 use Rattle.std.proofs.Common.{◌≡◌, refl}
 use Rattle.int_ranges.specs.declared.ctype.CType.TheVariants.{Int}
 use Rattle.ebnf.specs.Sets.{first, first_rule, low, low_rule, is_empty}
@@ -62,12 +63,7 @@ abbrev too_deep : List Word → List Word → Bool
 too_deep xs ys = stops TooDeep (suc (length ys)) (read_items (placed 1 (xs ++ ys)))
 
 abbrev times : ℕ → Word → List Word → List Word
-times zero x xs = xs
-times (suc n) x xs = x ∷ times n x xs
-
-abbrev all_hold : List Bool → Bool
-all_hold [] = true
-all_hold (b ∷ bs) = b && all_hold bs
+times n x xs = replicate n x ++ xs
 
 abbrev items : List Bool
 items =
@@ -502,15 +498,15 @@ forms =
     reads_none (read_source (placed 1 [])) ∷
     []
 
-forms_hold : all_hold forms ≡ true
+forms_hold : list_all (λ b. b) forms ≡ true
 unfolding reads read links climbs read_rule first first_rule low low_rule is_empty
 forms_hold = refl
 
-items_hold : all_hold items ≡ true
+items_hold : list_all (λ b. b) items ≡ true
 unfolding reads read links climbs read_rule first first_rule low low_rule is_empty
 items_hold = refl
 
-faults_hold : all_hold faults ≡ true
+faults_hold : list_all (λ b. b) faults ≡ true
 unfolding reads read links climbs read_rule first first_rule low low_rule is_empty
 faults_hold = refl
 
@@ -518,6 +514,6 @@ lock_holds : has_items 7 (read_items (placed 1 lock)) ≡ true
 unfolding reads read links climbs read_rule first first_rule low low_rule is_empty
 lock_holds = refl
 
-deep_hold : all_hold deep ≡ true
+deep_hold : list_all (λ b. b) deep ≡ true
 unfolding reads read links climbs read_rule first first_rule low low_rule is_empty
 deep_hold = refl

@@ -1,5 +1,6 @@
 -- The trees that values of the code stand for.
-use Rattle.std.specs.Prelude.{List, [], ◌∷◌, map, Option, Some, None}
+use Rattle.std.specs.Prelude.{List, [], ◌∷◌, map}
+use Rattle.std.specs.Option.{option_map}
 use Rattle.c_syntax.specs.declared.expressions.Identifier.{Identifier}
 use Rattle.c_syntax.specs.declared.expressions.ValueType.{ValueType}
 use Rattle.c_syntax.specs.declared.expressions.ValueType.TheVariants as types
@@ -90,14 +91,10 @@ comparison x = record { place = x.span; is_equal = x.is_equal; other = exp x.oth
 abbrev pub call : Call → CallTree
 call x = record { function = id x.function; arguments = exps x.arguments.items; ghost_arguments = exps x.ghost_arguments.items }
 
-abbrev pub optional : {A B : Type 0} → (A → B) → Option A → Option B
-optional f None = None
-optional f (Some x) = Some (f x)
-
 abbrev pub rhs : Right → Rhs
 rhs (rights.Value x) = e.Value (exp x)
-rhs (rights.Malloc c o x) = e.Malloc (optional id c) o (id x)
-rhs (rights.Interlocked x c) = e.Locked (inter x) (optional comparison c)
+rhs (rights.Malloc c o x) = e.Malloc (option_map id c) o (id x)
+rhs (rights.Interlocked x c) = e.Locked (inter x) (option_map comparison c)
 rhs (rights.Call x) = e.Called (call x)
 
 abbrev pub effect : Change → Effect
@@ -128,7 +125,7 @@ ghost_rhs (ghosts.MakeClaim o xs x) = g.MakeClaim o (exps xs.items) (exp x)
 abbrev mutual
   pub ghost : GhostStmt → GStm
   ghost (gs.Block' o m xs) = g.Block o (ghost_row xs)
-  ghost (gs.Declare o t n x) = g.Declare o (ty t) (id n) (optional ghost_rhs x)
+  ghost (gs.Declare o t n x) = g.Declare o (ty t) (id n) (option_map ghost_rhs x)
   ghost (gs.Assign o x p y) = g.Assign o (exp x) p (ghost_rhs y)
   ghost (gs.Owns o x p y) = g.Owns o (exp x) p (owns y)
   ghost (gs.DestroyClaim o x xs) = g.DestroyClaim o (exp x) (exps xs.items)
@@ -150,15 +147,15 @@ abbrev mutual
   pub stm : Stmt → Stm
   stm (s.Block' o m xs c) = st.Block o (stm_row xs) c
   stm (s.Skip o) = st.Skip o
-  stm (s.Declare o t n x) = st.Declare o (ty t) (id n) (optional rhs x)
+  stm (s.Declare o t n x) = st.Declare o (ty t) (id n) (option_map rhs x)
   stm (s.Assign o x) = st.Assign o (assignment x)
   stm (s.Call o x) = st.Call o (call x)
   stm (s.If' o x q a) = st.If o (exp x) (stm a)
   stm (s.IfElse' o x q a r b) = st.IfElse o (exp x) (stm a) (stm b)
   stm (s.While' o x is q a) = st.While o (exp x) (map invariant is.items) (stm a)
   stm (s.Do' o is q a p x) = st.Do o (map invariant is.items) (stm a) p (exp x)
-  stm (s.For' o x y z is q a) = st.For o (optional assignment x) (exp y) (optional assignment z) (map invariant is.items) (stm a)
-  stm (s.Return o x) = st.Return o (optional exp x)
+  stm (s.For' o x y z is q a) = st.For o (option_map assignment x) (exp y) (option_map assignment z) (map invariant is.items) (stm a)
+  stm (s.Return o x) = st.Return o (option_map exp x)
   stm (s.Spawn o x) = st.Spawn o (call x)
   stm (s.Free o x) = st.Free o (exp x)
   stm (s.Assert o x) = st.Assert o (exp x)
@@ -193,7 +190,7 @@ parameter x = record { ty = ty x.ty; name = id x.name }
 abbrev pub function : Function → FunctionTree
 function x = record {
   place = x.span;
-  value = optional ty x.result;
+  value = option_map ty x.result;
   name = id x.name;
   parameters = map parameter x.parameters.items;
   ghost_parameters = map parameter x.ghost_parameters.items;
