@@ -140,7 +140,7 @@ p ▷ q = row p q
 
 -- ---- tokens
 
-abbrev name_text : Word → List ℕ
+abbrev pub name_text : Word → List ℕ
 name_text (t.Name x) = x
 name_text (t.Key x) = []
 name_text (t.Spec x) = []
@@ -149,7 +149,7 @@ name_text (t.Number n ty) = []
 name_text (t.Mark x) = []
 name_text t.End = []
 
-abbrev number_exp : Span → Word → Exp
+abbrev pub number_exp : Span → Word → Exp
 number_exp place (t.Number n ty) = e.Number place n ty
 number_exp place (t.Name x) = e.Null place
 number_exp place (t.Key x) = e.Null place
@@ -158,121 +158,125 @@ number_exp place t.OtherSpec = e.Null place
 number_exp place (t.Mark x) = e.Null place
 number_exp place t.End = e.Null place
 
-abbrev id_of : Lexeme → Id
+abbrev pub id_of : Lexeme → Id
 id_of x = record { place = x.place; name = name_text x.word }
 
 -- a word or sign, with its place
-abbrev word : ℕ → P Span
+abbrev pub word : ℕ → P Span
 word class = token class 0 (λ x. x.place)
 
 -- a name that counts as 1 high, and one in a tree that is nothing but it
-abbrev name : P Id
+abbrev pub name : P Id
 name = token 1 1 id_of
 
-abbrev leaf_name : P Id
+abbrev pub leaf_name : P Id
 leaf_name = token 1 0 id_of
 
 -- ---- parts that recur
 
-abbrev optional : {A : Type 0} → P A → P (Option A)
+abbrev pub optional : {A : Type 0} → P A → P (Option A)
 optional p = by_next (p ▷ nothing (λ x. Some x)) (nothing None)
 
-abbrev flag : ℕ → P Bool
+abbrev pub flag : ℕ → P Bool
 flag class = by_next (token class 0 (λ x. true)) (nothing false)
 
 -- one, and further ones behind commas
-abbrev list : {A : Type 0} → P A → P (List A)
+abbrev pub list : {A : Type 0} → P A → P (List A)
 list p = p ▷ many (word (sign s.Comma) ▷ p ▷ nothing (λ x c. x)) (λ xs. xs) ▷ nothing (λ xs x. x ∷ xs)
 
-abbrev list_or_none : {A : Type 0} → P A → P (List A)
+abbrev pub list_or_none : {A : Type 0} → P A → P (List A)
 list_or_none p = by_next (list p) (nothing [])
 
-abbrev exps_of : List Exp → Exps
+abbrev pub exps_of : List Exp → Exps
 exps_of [] = e.Stop
 exps_of (x ∷ xs) = e.With x (exps_of xs)
 
-abbrev stms_of : List Stm → Stms
+abbrev pub stms_of : List Stm → Stms
 stms_of [] = st.Empty
 stms_of (x ∷ xs) = st.More x (stms_of xs)
 
-abbrev ghosts_of : List GStm → GStms
+abbrev pub ghosts_of : List GStm → GStms
 ghosts_of [] = g.Empty
 ghosts_of (x ∷ xs) = g.More x (ghosts_of xs)
 
 -- in brackets
-abbrev inside : {A : Type 0} → P A → P A
+abbrev pub inside : {A : Type 0} → P A → P A
 inside p = word (sign s.Open) ▷ p ▷ word (sign s.Close) ▷ nothing (λ c x o. x)
 
 -- an expression of code, one of a spec, and a whole spec
-abbrev code : P Exp
+abbrev pub code : P Exp
 code = below (Level Code Choice) (λ x. x)
 
-abbrev spec_exp : P Exp
+abbrev pub spec_exp : P Exp
 spec_exp = below (Level InSpec Choice) (λ x. x)
 
-abbrev whole_spec : P Exp
+abbrev pub whole_spec : P Exp
 whole_spec = below (Level InSpec Equivalence) (λ x. x)
 
 -- ---- types
 
-abbrev maybe_int : P (Option Span)
+abbrev pub maybe_int : P (Option Span)
 maybe_int = optional (word (key k.Int))
 
+-- what follows the word `unsigned`
+abbrev pub unsigned_behind : P Ty
+unsigned_behind = by_next (word (key k.Long) ▷ word (key k.Long) ▷ maybe_int ▷ nothing (λ i l m. e.Integer c.UnsignedLongLong)) (maybe_int ▷ nothing (λ i. e.Integer c.Unsigned))
+
 -- a type, with the place of its first token
-abbrev int_type : P (Span × Ty)
+abbrev pub int_type : P (Span × Ty)
 int_type =
     by_next (token (key k.Int) 0 (λ x. (x.place, e.Integer c.Int)))
     (by_next (word (key k.Long) ▷ word (key k.Long) ▷ maybe_int ▷ nothing (λ i l m. (m, e.Integer c.LongLong)))
-    (word (key k.Unsigned) ▷ by_next (word (key k.Long) ▷ word (key k.Long) ▷ maybe_int ▷ nothing (λ i l m. e.Integer c.UnsignedLongLong)) (maybe_int ▷ nothing (λ i. e.Integer c.Unsigned)) ▷ nothing (λ ty u. (u, ty))))
+    (word (key k.Unsigned) ▷ unsigned_behind ▷ nothing (λ ty u. (u, ty))))
 
-abbrev struct_pointer : P (Span × Id)
+abbrev pub struct_pointer : P (Span × Id)
 struct_pointer = word (key k.Struct) ▷ name ▷ word (sign s.Star) ▷ nothing (λ a x st. (st, x))
 
-abbrev ctype : P (Span × Ty)
+abbrev pub ctype : P (Span × Ty)
 ctype = by_next int_type (struct_pointer ▷ nothing (λ x. (x.0, e.Pointer x.1)))
 
-abbrev gtype : P (Span × Ty)
+abbrev pub gtype : P (Span × Ty)
 gtype = by_next ctype (by_next (token (spec w.Object) 0 (λ x. (x.place, e.Object))) (token (spec w.Claim) 0 (λ x. (x.place, e.Claim))))
 
 -- ---- expressions
 
-abbrev leaf : {A : Type 0} → ℕ → (Lexeme → A) → R A
+abbrev pub leaf : {A : Type 0} → ℕ → (Lexeme → A) → R A
 leaf class f = form (token class 0 f)
 
-abbrev number : R Exp
+abbrev pub number : R Exp
 number = leaf 2 (λ x. number_exp x.place x.word)
 
-abbrev null : R Exp
+abbrev pub null : R Exp
 null = leaf (key k.Null) (λ x. e.Null x.place)
 
-abbrev named : R Exp
+abbrev pub named : R Exp
 named = leaf 1 (λ x. e.Name (id_of x))
 
-abbrev top : Mode → N
+abbrev pub top : Mode → N
 top Code = Level Code Choice
 top InSpec = Level InSpec Equivalence
 
-abbrev in_brackets : Mode → P Exp
+abbrev pub in_brackets : Mode → P Exp
 in_brackets Code = code
 in_brackets InSpec = whole_spec
 
-abbrev group : Mode → R Exp
+abbrev pub group : Mode → R Exp
 group m = form (word (sign s.Open) ▷ in_brackets m ▷ word (sign s.Close) ▷ nothing (λ c x o. e.Group o x))
 
-abbrev constant : (class : ℕ) → Constant → R Exp
+abbrev pub constant : (class : ℕ) → Constant → R Exp
 constant class x = leaf class (λ y. e.Word y.place x)
 
-abbrev apply : (class : ℕ) → SpecFunction → P Exp → R Exp
+abbrev pub apply : (class : ℕ) → SpecFunction → P Exp → R Exp
 apply class f p = form (word class ▷ inside p ▷ nothing (λ x o. e.Apply o f x))
 
-abbrev two : {A : Type 0} → P Exp → P Exp → (Exp → Exp → A) → P A
+abbrev pub two : {A : Type 0} → P Exp → P Exp → (Exp → Exp → A) → P A
 two p q f = word (sign s.Open) ▷ p ▷ word (sign s.Comma) ▷ q ▷ word (sign s.Close) ▷ nothing (λ c y m x o. f x y)
 
-abbrev quantified : (class : ℕ) → Quantifier → R Exp
+abbrev pub quantified : (class : ℕ) → Quantifier → R Exp
 quantified class q = form (word class ▷ gtype ▷ name ▷ word (sign s.Semicolon) ▷ whole_spec ▷ nothing (λ x m n ty o. e.Quantified o q ty.1 n x))
 
 -- what only a spec has
-abbrev spec_word : R Exp
+abbrev pub spec_word : R Exp
 spec_word =
     pick (constant (spec w.True) constants.True) (pick (constant (spec w.False) constants.False) (pick (constant (spec w.This) constants.This) (pick (constant (spec w.Me) constants.Me) (pick (constant (spec w.Result) constants.Result)
     (pick (apply (spec w.Old) functions.Old whole_spec) (pick (apply (spec w.Unchanged) functions.Unchanged whole_spec) (pick (apply (spec w.Wrapped) functions.Wrapped spec_exp) (pick (apply (spec w.WrappedUnclaimed) functions.WrappedUnclaimed spec_exp)
@@ -282,10 +286,10 @@ spec_word =
     (form (word (spec w.Claims) ▷ two spec_exp whole_spec (λ x y o. e.Claims o x y)))))))))))))))
 
 -- quantifiers reach as far right as they can
-abbrev quantifier : R Exp
+abbrev pub quantifier : R Exp
 quantifier = pick (quantified (spec w.Forall) quantifiers.ForAll) (quantified (spec w.Exists) quantifiers.Exists)
 
-abbrev unnamed : Mode → R Exp
+abbrev pub unnamed : Mode → R Exp
 unnamed m = pick number (pick null (group m))
 
 abbrev pub primary : Mode → R Exp
@@ -293,79 +297,79 @@ primary Code = pick named (unnamed Code)
 primary InSpec = pick named (pick (unnamed InSpec) (pick spec_word quantifier))
 
 -- what stands behind an arrow
-abbrev field : P (Span → Exp → Exp)
+abbrev pub field : P (Span → Exp → Exp)
 field = name ▷ nothing (λ x o l. e.Field o l x)
 
-abbrev status : (class : ℕ) → Status → P (Span → Exp → Exp)
+abbrev pub status : (class : ℕ) → Status → P (Span → Exp → Exp)
 status class x = token class 0 (λ y o l. e.State o l y.place x)
 
-abbrev suffix : Mode → P (Span → Exp → Exp)
+abbrev pub suffix : Mode → P (Span → Exp → Exp)
 suffix Code = field
 suffix InSpec = by_next field (by_next (status (spec w.Closed) statuses.Closed) (by_next (status (spec w.Owner) statuses.Owner) (status (spec w.ClaimCount) statuses.ClaimCount)))
 
-abbrev owns : P (Span → Exp → Exp)
+abbrev pub owns : P (Span → Exp → Exp)
 owns = token (spec w.Owns) 0 (λ y o l. e.Owns o l y.place)
 
 -- The levels over what stands leftmost, which is an expression or begins as one: plain makes it of an expression, over changes the expression that it is, and goes says whether an operator may follow.
 module _ {A : Type 0} (m : Mode) (plain : Exp → A) (over : (Exp → Exp) → A → A) (goes : A → Bool) where
-  abbrev links : R A → P (A → A) → R A
+  abbrev pub links : R A → P (A → A) → R A
   links left link = chain left goes link (λ l f. f l)
 
-  abbrev operator : (class : ℕ) → BinaryOperator → Tier → P (A → A)
+  abbrev pub operator : (class : ℕ) → BinaryOperator → Tier → P (A → A)
   operator class o right = word class ▷ below (Level m right) (λ x. x) ▷ nothing (λ r p l. over (λ x. e.Binary p o x r) l)
 
-  abbrev postfixed : R A → R A
+  abbrev pub postfixed : R A → R A
   postfixed leftmost = links leftmost (word (sign s.Arrow) ▷ suffix m ▷ nothing (λ f o l. over (f o) l))
 
-  abbrev prefixed : R A → R A
+  abbrev pub prefixed : R A → R A
   prefixed leftmost =
       pick (form (word (sign s.Not) ▷ below (Level m Prefix) (λ x. x) ▷ nothing (λ x o. plain (e.Unary o unaries.Not x)))) (pick (form (word (sign s.Minus) ▷ below (Level m Prefix) (λ x. x) ▷ nothing (λ x o. plain (e.Unary o unaries.Negate x)))) (postfixed leftmost))
 
-  abbrev products : R A → R A
+  abbrev pub products : R A → R A
   products leftmost = links (prefixed leftmost) (by_next (operator (sign s.Star) op.Times Prefix) (by_next (operator (sign s.Slash) op.Over Prefix) (operator (sign s.Percent) op.Modulo Prefix)))
 
-  abbrev sums : R A → R A
+  abbrev pub sums : R A → R A
   sums leftmost = links (products leftmost) (by_next (operator (sign s.Plus) op.Plus Product) (operator (sign s.Minus) op.Minus Product))
 
-  abbrev compares : P (A → A)
+  abbrev pub compares : P (A → A)
   compares = by_next (operator (sign s.Less) op.Less Sum) (by_next (operator (sign s.LessEqual) op.LessEqual Sum) (by_next (operator (sign s.Greater) op.Greater Sum) (operator (sign s.GreaterEqual) op.GreaterEqual Sum)))
 
-  abbrev order_of : Mode → P (A → A)
+  abbrev pub order_of : Mode → P (A → A)
   order_of Code = compares
   order_of InSpec = by_next compares (word (spec w.In) ▷ below OwnedSet (λ x. x) ▷ nothing (λ r p l. over (λ x. e.Binary p op.In x r) l))
 
-  abbrev orders : R A → R A
+  abbrev pub orders : R A → R A
   orders leftmost = links (sums leftmost) (order_of m)
 
-  abbrev equalities : R A → R A
+  abbrev pub equalities : R A → R A
   equalities leftmost = links (orders leftmost) (by_next (operator (sign s.Equal) op.Equal Order) (operator (sign s.NotEqual) op.NotEqual Order))
 
-  abbrev conjunctions : R A → R A
+  abbrev pub conjunctions : R A → R A
   conjunctions leftmost = links (equalities leftmost) (operator (sign s.And) op.And Equality)
 
-  abbrev disjunctions : R A → R A
+  abbrev pub disjunctions : R A → R A
   disjunctions leftmost = links (conjunctions leftmost) (operator (sign s.Or) op.Or Conjunction)
 
-  abbrev choices : R A → R A
+  abbrev pub choices : R A → R A
   choices leftmost =
       links (disjunctions leftmost) (word (sign s.Question) ▷ below (Level m Choice) (λ x. x) ▷ word (sign s.Colon) ▷ below (Level m Choice) (λ x. x) ▷ nothing (λ z c y o l. over (λ x. e.Conditional o x y z) l))
 
-  abbrev implications : R A → R A
+  abbrev pub implications : R A → R A
   implications leftmost = links (choices leftmost) (operator (sign s.Implies) op.Implies Implication)
 
-  abbrev equivalences : R A → R A
+  abbrev pub equivalences : R A → R A
   equivalences leftmost = links (implications leftmost) (operator (sign s.Equivalent) op.Equivalent Implication)
 
-abbrev always : {A : Type 0} → A → Bool
+abbrev pub always : {A : Type 0} → A → Bool
 always x = true
 
-abbrev same : Exp → Exp
+abbrev pub same : Exp → Exp
 same x = x
 
-abbrev change : (Exp → Exp) → Exp → Exp
+abbrev pub change : (Exp → Exp) → Exp → Exp
 change f x = f x
 
-abbrev level : Mode → Tier → R Exp
+abbrev pub level : Mode → Tier → R Exp
 level m Prefix = prefixed m same change always (primary m)
 level m Product = products m same change always (primary m)
 level m Sum = sums m same change always (primary m)
@@ -382,152 +386,152 @@ level InSpec Equivalence = equivalences InSpec same change always (primary InSpe
 -- ---- left and right sides
 
 -- an arrow and a field
-abbrev arrow : P (Exp → Exp)
+abbrev pub arrow : P (Exp → Exp)
 arrow = word (sign s.Arrow) ▷ field ▷ nothing (λ f o l. f o l)
 
-abbrev apply_to : Exp → (Exp → Exp) → Exp
+abbrev pub apply_to : Exp → (Exp → Exp) → Exp
 apply_to l f = f l
 
 -- with one arrow at least
-abbrev after_arrow : P Exp → P (Exp → Exp) → R Exp
+abbrev pub after_arrow : P Exp → P (Exp → Exp) → R Exp
 after_arrow q p = form (q ▷ p ▷ nothing (λ f x. f x))
 
-abbrev name_place : R Exp
+abbrev pub name_place : R Exp
 name_place = chain named always arrow apply_to
 
-abbrev other_place : R Exp
+abbrev pub other_place : R Exp
 other_place = chain (after_arrow (below Unnamed (λ x. x)) arrow) always arrow apply_to
 
-abbrev any_place : R Exp
+abbrev pub any_place : R Exp
 any_place = chain (after_arrow (below (Primary Code) (λ x. x)) arrow) always arrow apply_to
 
 -- in ghost code an arrow may end with the owned set
-abbrev ghost_arrow : P (Exp → Exp)
+abbrev pub ghost_arrow : P (Exp → Exp)
 ghost_arrow = word (sign s.Arrow) ▷ by_next field owns ▷ nothing (λ f o l. f o l)
 
-abbrev is_owns : Exp → Bool
+abbrev pub is_owns : Exp → Bool
 is_owns (e.Owns o l w) = true
 is_owns _ = false
 
-abbrev is_no_owns : Exp → Bool
+abbrev pub is_no_owns : Exp → Bool
 is_no_owns (e.Owns o l w) = false
 is_no_owns _ = true
 
-abbrev ghost_name : R Exp
+abbrev pub ghost_name : R Exp
 ghost_name = chain named is_no_owns ghost_arrow apply_to
 
-abbrev ghost_other : R Exp
+abbrev pub ghost_other : R Exp
 ghost_other = chain (after_arrow (below Unnamed (λ x. x)) ghost_arrow) is_no_owns ghost_arrow apply_to
 
 -- what stands right of `\in` begins with a primary; a quantifier isn't one here
-abbrev set_start : R Exp
+abbrev pub set_start : R Exp
 set_start = pick named (pick (unnamed InSpec) spec_word)
 
-abbrev owned_set : R Exp
+abbrev pub owned_set : R Exp
 owned_set = climb (below SetStart (λ x. x)) (sign s.Arrow) (suffix InSpec ▷ nothing (λ f o l. f o.place l)) (owns ▷ nothing (λ f o l. f o.place l))
 
 -- what follows the word `malloc`
-abbrev size_of : P (Span → Id)
+abbrev pub size_of : P (Span → Id)
 size_of = word (sign s.Open) ▷ word (key k.Sizeof) ▷ word (sign s.Open) ▷ word (key k.Struct) ▷ name ▷ word (sign s.Close) ▷ word (sign s.Close) ▷ nothing (λ d c x st b z a m. x)
 
-abbrev allocation : R (Span × Id)
+abbrev pub allocation : R (Span × Id)
 allocation = form (word (key k.Malloc) ▷ size_of ▷ nothing (λ f m. (m, f m)))
 
 -- arguments, and ghost arguments behind them
-abbrev ghost_arguments : P (List Exp)
+abbrev pub ghost_arguments : P (List Exp)
 ghost_arguments = many (below GhostArgument (λ x. x)) (λ xs. xs)
 
-abbrev call_behind : P (Id → CallTree)
+abbrev pub call_behind : P (Id → CallTree)
 call_behind = word (sign s.Open) ▷ list_or_none code ▷ ghost_arguments ▷ word (sign s.Close) ▷ nothing (λ c gs xs o f. record { function = f; arguments = xs; ghost_arguments = gs })
 
-abbrev ghost_argument : R Exp
+abbrev pub ghost_argument : R Exp
 ghost_argument = form (word (sign s.Annotation) ▷ word (key k.Ghost) ▷ code ▷ word (sign s.Close) ▷ nothing (λ c x gh a. x))
 
-abbrev locked_word : P (Span × Interlocked)
+abbrev pub locked_word : P (Span × Interlocked)
 locked_word =
     by_next (token (key k.CompareExchange) 0 (λ x. (x.place, locked.CompareExchange)))
     (by_next (token (key k.Exchange) 0 (λ x. (x.place, locked.Exchange))) (by_next (token (key k.Increment) 0 (λ x. (x.place, locked.Increment))) (token (key k.Decrement) 0 (λ x. (x.place, locked.Decrement)))))
 
-abbrev not_compared : Inter × Option Comparison → Bool
+abbrev pub not_compared : Inter × Option Comparison → Bool
 not_compared (x, None) = true
 not_compared (x, Some y) = false
 
-abbrev compared_with : Inter × Option Comparison → Comparison → Inter × Option Comparison
+abbrev pub compared_with : Inter × Option Comparison → Comparison → Inter × Option Comparison
 compared_with x y = (x.0, Some y)
 
-abbrev comparison : P Comparison
+abbrev pub comparison : P Comparison
 comparison = by_next (word (sign s.Equal) ▷ code ▷ nothing (λ x o. record { place = o; is_equal = true; other = x })) (word (sign s.NotEqual) ▷ code ▷ nothing (λ x o. record { place = o; is_equal = false; other = x }))
 
-abbrev interlocked_call : R (Inter × Option Comparison)
+abbrev pub interlocked_call : R (Inter × Option Comparison)
 interlocked_call =
     chain (form (locked_word ▷ word (sign s.Open) ▷ word (sign s.Ampersand) ▷ below AnyPlace (λ x. x) ▷ many (word (sign s.Comma) ▷ code ▷ nothing (λ x m. x)) (λ xs. xs) ▷ word (sign s.Close)
     ▷ nothing (λ c xs x a o w. (record { place = w.0; function = w.1; field = x; arguments = xs }, None)))) not_compared comparison compared_with
 
 -- an expression that a right side begins with, or a cast
-abbrev over_begun : (Exp → Exp) → Begun → Begun
+abbrev pub over_begun : (Exp → Exp) → Begun → Begun
 over_begun f (Plain x) = Plain (f x)
 over_begun f (Cast x) = Cast x
 
-abbrev is_plain : Begun → Bool
+abbrev pub is_plain : Begun → Bool
 is_plain (Plain x) = true
 is_plain (Cast x) = false
 
-abbrev is_cast : Begun → Bool
+abbrev pub is_cast : Begun → Bool
 is_cast (Plain x) = false
 is_cast (Cast x) = true
 
-abbrev cast_or_group : P (Span → Begun)
+abbrev pub cast_or_group : P (Span → Begun)
 cast_or_group = by_next (struct_pointer ▷ word (sign s.Close) ▷ nothing (λ c x o. Cast x.1)) (code ▷ word (sign s.Close) ▷ nothing (λ c x o. Plain (e.Group o x)))
 
-abbrev start_primary : R Begun
+abbrev pub start_primary : R Begun
 start_primary = pick (leaf 1 (λ x. Plain (e.Name (id_of x)))) (pick (leaf 2 (λ x. Plain (number_exp x.place x.word))) (pick (leaf (key k.Null) (λ x. Plain (e.Null x.place))) (form (word (sign s.Open) ▷ cast_or_group ▷ nothing (λ f o. f o)))))
 
-abbrev start : R Begun
+abbrev pub start : R Begun
 start = choices Code (λ x. Plain x) over_begun is_plain start_primary
 
-abbrev cast_name : Begun → Option Id
+abbrev pub cast_name : Begun → Option Id
 cast_name (Plain x) = None
 cast_name (Cast x) = Some x
 
-abbrev plain_of : Begun → Exp
+abbrev pub plain_of : Begun → Exp
 plain_of (Plain x) = x
 plain_of (Cast x) = e.Name x
 
 -- a cast stands only in front of a `malloc`
-abbrev cast_done : P Pending
+abbrev pub cast_done : P Pending
 cast_done = by_value (below Start (λ x. x)) is_cast (word (key k.Malloc) ▷ size_of ▷ nothing (λ f m x. Done (e.Malloc (cast_name x) m (f m)))) (nothing (λ x. Open (plain_of x)))
 
-abbrev is_bare : Pending → Bool
+abbrev pub is_bare : Pending → Bool
 is_bare (Done x) = false
 is_bare (Open (e.Name x)) = true
 is_bare (Open _) = false
 
-abbrev callee : Pending → Id
+abbrev pub callee : Pending → Id
 callee (Done x) = record { place = record { line = 0; column = 0 }; name = [] }
 callee (Open (e.Name x)) = x
 callee (Open _) = record { place = record { line = 0; column = 0 }; name = [] }
 
-abbrev done : Pending → Rhs
+abbrev pub done : Pending → Rhs
 done (Done x) = x
 done (Open x) = e.Value x
 
-abbrev rhs : P Rhs
+abbrev pub rhs : P Rhs
 rhs =
     by_next (below Allocation (λ x. e.Malloc None x.0 x.1)) (by_next (below InterlockedCall (λ x. e.Locked x.0 x.1))
     (by_value cast_done is_bare (by_next (call_behind ▷ nothing (λ f x. e.Called (f (callee x)))) (nothing done)) (nothing done)))
 
-abbrev assignment_behind : P (Exp → Assignment)
+abbrev pub assignment_behind : P (Exp → Assignment)
 assignment_behind =
     by_next (word (sign s.Assign) ▷ rhs ▷ nothing (λ x o l. record { left = l; place = o; effect = e.Set x })) (by_next (word (sign s.AddAssign) ▷ code ▷ nothing (λ x o l. record { left = l; place = o; effect = e.Add x }))
     (by_next (word (sign s.SubtractAssign) ▷ code ▷ nothing (λ x o l. record { left = l; place = o; effect = e.Subtract x }))
     (by_next (token (sign s.Increment) 0 (λ x l. record { left = l; place = x.place; effect = e.Increment })) (token (sign s.Decrement) 0 (λ x l. record { left = l; place = x.place; effect = e.Decrement })))))
 
 -- an assignment of a `for`
-abbrev assigned : R Assignment
+abbrev pub assigned : R Assignment
 assigned = pick (form (below NamePlace (λ x. x) ▷ assignment_behind ▷ nothing (λ f l. f l))) (form (below OtherPlace (λ x. x) ▷ assignment_behind ▷ nothing (λ f l. f l)))
 
 -- the place of an expression's first token
-abbrev first_place : Exp → Span
+abbrev pub first_place : Exp → Span
 first_place (e.Number p n ty) = p
 first_place (e.Name x) = x.place
 first_place (e.Null p) = p
@@ -547,46 +551,46 @@ first_place (e.Quantified p q ty x y) = p
 
 -- ---- ghost statements
 
-abbrev set : P (List Exp)
+abbrev pub set : P (List Exp)
 set = word (sign s.BraceOpen) ▷ list_or_none code ▷ word (sign s.BraceClose) ▷ nothing (λ c xs o. xs)
 
-abbrev members : P Members
+abbrev pub members : P Members
 members = by_next (set ▷ nothing (λ xs. g.Several xs)) (code ▷ nothing (λ x. g.One x))
 
-abbrev make_claim : R GhostRhs
+abbrev pub make_claim : R GhostRhs
 make_claim = form (word (spec w.MakeClaim) ▷ word (sign s.Open) ▷ set ▷ word (sign s.Comma) ▷ whole_spec ▷ word (sign s.Close) ▷ nothing (λ c x m xs o p. g.MakeClaim p xs x))
 
-abbrev ghost_rhs : P GhostRhs
+abbrev pub ghost_rhs : P GhostRhs
 ghost_rhs = by_next (below MakeClaim (λ x. x)) (code ▷ nothing (λ x. g.Value x))
 
-abbrev semicolon_or_none : P (Option Span)
+abbrev pub semicolon_or_none : P (Option Span)
 semicolon_or_none = optional (word (sign s.Semicolon))
 
 -- what stands behind a left side, and behind an owned set
-abbrev ghost_set : P (Exp → GStm)
+abbrev pub ghost_set : P (Exp → GStm)
 ghost_set = word (sign s.Assign) ▷ ghost_rhs ▷ semicolon_or_none ▷ nothing (λ z x o l. g.Assign (first_place l) l o x)
 
-abbrev owns_change : P (Span × OwnsEffect)
+abbrev pub owns_change : P (Span × OwnsEffect)
 owns_change =
     by_next (word (sign s.Assign) ▷ set ▷ nothing (λ xs o. (o, g.Become xs))) (by_next (word (sign s.AddAssign) ▷ members ▷ nothing (λ x o. (o, g.Join x))) (word (sign s.SubtractAssign) ▷ members ▷ nothing (λ x o. (o, g.Leave x))))
 
-abbrev owns_set : P (Exp → GStm)
+abbrev pub owns_set : P (Exp → GStm)
 owns_set = owns_change ▷ semicolon_or_none ▷ nothing (λ z x l. g.Owns (first_place l) l x.0 x.1)
 
-abbrev ghost_if : Span → Exp → GStm → Option GStm → GStm
+abbrev pub ghost_if : Span → Exp → GStm → Option GStm → GStm
 ghost_if p x a None = g.If p x a
 ghost_if p x a (Some b) = g.IfElse p x a b
 
-abbrev ghost_first : P GhostRhs
+abbrev pub ghost_first : P GhostRhs
 ghost_first = word (sign s.Assign) ▷ ghost_rhs ▷ nothing (λ x o. x)
 
-abbrev ghost_wrap : P (Span → GStm)
+abbrev pub ghost_wrap : P (Span → GStm)
 ghost_wrap = by_next (word (key k.Wrap) ▷ code ▷ nothing (λ x u p. g.Wrap p x)) (word (key k.Unwrap) ▷ code ▷ nothing (λ x u p. g.Unwrap p x))
 
-abbrev ghost_else : P GStm
+abbrev pub ghost_else : P GStm
 ghost_else = word (key k.Else) ▷ below GhostBody (λ x. x) ▷ nothing (λ x l. x)
 
-abbrev ghost_statement : R GStm
+abbrev pub ghost_statement : R GStm
 ghost_statement =
     pick (form (gtype ▷ name ▷ optional ghost_first ▷ semicolon_or_none ▷ nothing (λ z x n ty. g.Declare ty.0 ty.1 n x)))
     (pick (form (by_value (below GhostName (λ x. x)) is_owns owns_set ghost_set)) (pick (form (by_value (below GhostOther (λ x. x)) is_owns owns_set ghost_set))
@@ -594,52 +598,52 @@ ghost_statement =
     (pick (form (word (sign s.Annotation) ▷ ghost_wrap ▷ word (sign s.Close) ▷ semicolon_or_none ▷ nothing (λ z c f p. f p)))
     (form (word (key k.If) ▷ inside code ▷ below GhostBody (λ x. x) ▷ optional ghost_else ▷ semicolon_or_none ▷ nothing (λ z b a x p. ghost_if p x a b)))))))
 
-abbrev ghost_body : R GStm
+abbrev pub ghost_body : R GStm
 ghost_body = pick (form (word (sign s.BraceOpen) ▷ many (below GhostStatement (λ x. x)) (λ xs. xs) ▷ word (sign s.BraceClose) ▷ nothing (λ c xs o. g.Block o (ghosts_of xs)))) ghost_statement
 
 -- ---- statements
 
-abbrev block_of : R Braces
+abbrev pub block_of : R Braces
 block_of = form (word (sign s.BraceOpen) ▷ many (below Statement (λ x. x)) (λ xs. xs) ▷ word (sign s.BraceClose) ▷ nothing (λ c xs o. record { start = o; all = stms_of xs; end = c }))
 
-abbrev first_value : P Rhs
+abbrev pub first_value : P Rhs
 first_value = word (sign s.Assign) ▷ rhs ▷ nothing (λ x o. x)
 
-abbrev is_name : Exp → Bool
+abbrev pub is_name : Exp → Bool
 is_name (e.Name x) = true
 is_name _ = false
 
-abbrev name_of : Exp → Id
+abbrev pub name_of : Exp → Id
 name_of (e.Name x) = x
 name_of _ = record { place = record { line = 0; column = 0 }; name = [] }
 
-abbrev assign_statement : P (Exp → Stm)
+abbrev pub assign_statement : P (Exp → Stm)
 assign_statement = assignment_behind ▷ word (sign s.Semicolon) ▷ nothing (λ c f l. st.Assign (first_place l) (f l))
 
-abbrev call_statement : P (Exp → Stm)
+abbrev pub call_statement : P (Exp → Stm)
 call_statement = call_behind ▷ word (sign s.Semicolon) ▷ nothing (λ c f l. st.Call (first_place l) (f (name_of l)))
 
-abbrev if_of : Span → Exp → Stm → Option Stm → Stm
+abbrev pub if_of : Span → Exp → Stm → Option Stm → Stm
 if_of p x a None = st.If p x a
 if_of p x a (Some b) = st.IfElse p x a b
 
-abbrev else_part : P Stm
+abbrev pub else_part : P Stm
 else_part = word (key k.Else) ▷ below Statement (λ x. x) ▷ nothing (λ x l. x)
 
 -- invariants, and the body behind them
-abbrev loop_body : P (List Inv × Stm)
+abbrev pub loop_body : P (List Inv × Stm)
 loop_body = until (below LoopItem (λ x. x)) (λ xs x. (xs, x))
 
 -- The statements that don't begin with `_(`, each as wrap makes of it.
 module _ {A : Type 0} (wrap : Stm → A) where
-  abbrev loops : R A
+  abbrev pub loops : R A
   loops =
       pick (form (word (key k.While) ▷ inside code ▷ loop_body ▷ nothing (λ b x p. wrap (st.While p x b.0 b.1))))
       (pick (form (word (key k.Do) ▷ loop_body ▷ word (key k.While) ▷ inside code ▷ word (sign s.Semicolon) ▷ nothing (λ c x q b p. wrap (st.Do p b.0 b.1 q x))))
       (form (word (key k.For) ▷ word (sign s.Open) ▷ optional (below Assigned (λ x. x)) ▷ word (sign s.Semicolon) ▷ code ▷ word (sign s.Semicolon) ▷ optional (below Assigned (λ x. x)) ▷ word (sign s.Close) ▷ loop_body
       ▷ nothing (λ b c z m y n x o p. wrap (st.For p x y z b.0 b.1)))))
 
-  abbrev calls : R A
+  abbrev pub calls : R A
   calls =
       pick (form (word (key k.Return) ▷ optional code ▷ word (sign s.Semicolon) ▷ nothing (λ c x p. wrap (st.Return p x))))
       (pick (form (word (key k.VccSpawn) ▷ word (sign s.Open) ▷ name ▷ spawn_arguments ▷ word (sign s.Close) ▷ word (sign s.Semicolon) ▷ nothing (λ z c xs f o p. wrap (st.Spawn p (record { function = f; arguments = xs.0; ghost_arguments = xs.1 })))))
@@ -648,7 +652,7 @@ module _ {A : Type 0} (wrap : Stm → A) where
       spawn_arguments : P (List Exp × List Exp)
       spawn_arguments = by_next (word (sign s.Comma) ▷ list_or_none code ▷ ghost_arguments ▷ nothing (λ gs xs c. (xs, gs))) (nothing ([], []))
 
-  abbrev simple : R A
+  abbrev pub simple : R A
   simple =
       pick (form (word (sign s.BraceOpen) ▷ many (below Statement (λ x. x)) (λ xs. xs) ▷ word (sign s.BraceClose) ▷ nothing (λ c xs o. wrap (st.Block o (stms_of xs) c)))) (pick (leaf (sign s.Semicolon) (λ x. wrap (st.Skip x.place)))
       (pick (form (ctype ▷ name ▷ optional first_value ▷ word (sign s.Semicolon) ▷ nothing (λ c x n ty. wrap (st.Declare ty.0 ty.1 n x))))
@@ -657,110 +661,110 @@ module _ {A : Type 0} (wrap : Stm → A) where
       (pick (form (word (key k.If) ▷ inside code ▷ below Statement (λ x. x) ▷ optional else_part ▷ nothing (λ b a x p. wrap (if_of p x a b)))) (pick loops calls))))))
 
 -- what stands behind `_(` in a statement
-abbrev annotated : P (Span → Stm)
+abbrev pub annotated : P (Span → Stm)
 annotated =
     by_next (word (key k.Assert) ▷ whole_spec ▷ word (sign s.Close) ▷ nothing (λ c x q p. st.Assert p x)) (by_next (word (key k.Ghost) ▷ below GhostBody (λ x. x) ▷ word (sign s.Close) ▷ nothing (λ c x q p. st.Ghost p x))
     (by_next (word (key k.Wrap) ▷ code ▷ word (sign s.Close) ▷ nothing (λ c x q p. st.Wrap p x)) (by_next (word (key k.Unwrap) ▷ code ▷ word (sign s.Close) ▷ nothing (λ c x q p. st.Unwrap p x))
     (by_next (word (key k.Unwrapping) ▷ code ▷ word (sign s.Close) ▷ below BlockOf (λ x. x) ▷ nothing (λ b c x q p. st.Unwrapping p x b.all b.end))
     (word (key k.Atomic) ▷ list code ▷ word (sign s.Close) ▷ below BlockOf (λ x. x) ▷ nothing (λ b c xs q p. st.Atomic p xs b.all b.end))))))
 
-abbrev statement : R Stm
+abbrev pub statement : R Stm
 statement = pick (simple (λ x. x)) (form (word (sign s.Annotation) ▷ annotated ▷ nothing (λ f p. f p)))
 
-abbrev as_statement : Stm → Inv ⊎ Stm
+abbrev pub as_statement : Stm → Inv ⊎ Stm
 as_statement x = inr x
 
-abbrev invariant_behind : P (Span → Inv)
+abbrev pub invariant_behind : P (Span → Inv)
 invariant_behind = word (key k.Invariant) ▷ whole_spec ▷ word (sign s.Close) ▷ nothing (λ c x q p. record { place = p; property = x })
 
-abbrev loop_annotation : P (Span → Inv ⊎ Stm)
+abbrev pub loop_annotation : P (Span → Inv ⊎ Stm)
 loop_annotation = by_next (invariant_behind ▷ nothing (λ f p. inl (f p))) (annotated ▷ nothing (λ f p. inr (f p)))
 
-abbrev loop_item : R (Inv ⊎ Stm)
+abbrev pub loop_item : R (Inv ⊎ Stm)
 loop_item = pick (simple as_statement) (form (word (sign s.Annotation) ▷ loop_annotation ▷ nothing (λ f p. f p)))
 
 -- ---- contracts, functions and structs
 
-abbrev writes_of : R Written
+abbrev pub writes_of : R Written
 writes_of = pick (form (word (spec w.Span) ▷ inside whole_spec ▷ nothing (λ x p. i.SpanOf p x))) (form (word (spec w.Extent) ▷ inside whole_spec ▷ nothing (λ x p. i.ExtentOf p x)))
 
-abbrev written : P Written
+abbrev pub written : P Written
 written = by_next (below WritesOf (λ x. x)) (whole_spec ▷ nothing (λ x. i.Thing x))
 
-abbrev condition : (class : ℕ) → Condition → P (Span → Clause)
+abbrev pub condition : (class : ℕ) → Condition → P (Span → Clause)
 condition class x = word class ▷ whole_spec ▷ nothing (λ y q p. i.Holds p x y)
 
-abbrev clause_behind : P (Span → Clause)
+abbrev pub clause_behind : P (Span → Clause)
 clause_behind =
     by_next (condition (key k.Requires) conditions.Requires) (by_next (condition (key k.Ensures) conditions.Ensures) (by_next (condition (key k.Maintains) conditions.Maintains) (word (key k.Writes) ▷ list written ▷ nothing (λ xs q p. i.Writes p xs))))
 
-abbrev clause_of : R Clause
+abbrev pub clause_of : R Clause
 clause_of = form (word (sign s.Annotation) ▷ clause_behind ▷ word (sign s.Close) ▷ nothing (λ c f p. f p))
 
-abbrev param : P Param
+abbrev pub param : P Param
 param = ctype ▷ name ▷ nothing (λ n ty. record { ty = ty.1; name = n })
 
-abbrev params : P (List Param)
+abbrev pub params : P (List Param)
 params = by_next (word (key k.Void) ▷ nothing (λ v. [])) (list_or_none param)
 
-abbrev ghost_param : P Param
+abbrev pub ghost_param : P Param
 ghost_param = word (sign s.Annotation) ▷ word (key k.Ghost) ▷ gtype ▷ name ▷ word (sign s.Close) ▷ nothing (λ c n ty gh a. record { ty = ty.1; name = n })
 
 -- a function behind its name
-abbrev function_behind : P (Id → Span → Option Ty → FunctionTree)
+abbrev pub function_behind : P (Id → Span → Option Ty → FunctionTree)
 function_behind =
     word (sign s.Open) ▷ params ▷ many ghost_param (λ xs. xs) ▷ word (sign s.Close) ▷ many (below ClauseOf (λ x. x)) (λ xs. xs) ▷ below BlockOf (λ x. x)
     ▷ nothing (λ b cs c gs ps o n p ty. record { place = p; value = ty; name = n; parameters = ps; ghost_parameters = gs; contract = cs; body = b })
 
 -- members are no higher than what is in them
-abbrev leaf_pointer : P (Span × Ty)
+abbrev pub leaf_pointer : P (Span × Ty)
 leaf_pointer = word (key k.Struct) ▷ leaf_name ▷ word (sign s.Star) ▷ nothing (λ a x st. (st, e.Pointer x))
 
-abbrev field_type : P (Span × Ty)
+abbrev pub field_type : P (Span × Ty)
 field_type = by_next int_type leaf_pointer
 
-abbrev ghost_type : P (Span × Ty)
+abbrev pub ghost_type : P (Span × Ty)
 ghost_type = by_next field_type (by_next (token (spec w.Object) 0 (λ x. (x.place, e.Object))) (token (spec w.Claim) 0 (λ x. (x.place, e.Claim))))
 
-abbrev member_field : P Member
+abbrev pub member_field : P Member
 member_field = flag (key k.Volatile) ▷ field_type ▷ leaf_name ▷ word (sign s.Semicolon) ▷ nothing (λ z n ty v. i.Field (record { is_ghost = false; is_volatile = v; ty = ty.1; name = n }))
 
-abbrev ghost_field : P (Span → Member)
+abbrev pub ghost_field : P (Span → Member)
 ghost_field = word (key k.Ghost) ▷ flag (key k.Volatile) ▷ ghost_type ▷ leaf_name ▷ semicolon_or_none ▷ word (sign s.Close) ▷ nothing (λ c z n ty v gh p. i.Field (record { is_ghost = true; is_volatile = v; ty = ty.1; name = n }))
 
-abbrev member_annotation : P (Span → Member)
+abbrev pub member_annotation : P (Span → Member)
 member_annotation = by_next (invariant_behind ▷ nothing (λ f p. i.Invariant (f p))) ghost_field
 
-abbrev member_of : R Member
+abbrev pub member_of : R Member
 member_of = pick (form member_field) (form (word (sign s.Annotation) ▷ member_annotation ▷ nothing (λ f p. f p)))
 
-abbrev attribute : P Attribute
+abbrev pub attribute : P Attribute
 attribute = by_next (token (key k.Claimable) 0 (λ x. attributes.Claimable)) (by_next (token (key k.DynamicOwns) 0 (λ x. attributes.DynamicOwns)) (token (key k.VolatileOwns) 0 (λ x. attributes.VolatileOwns)))
 
-abbrev attribute_list : P (List Attribute)
+abbrev pub attribute_list : P (List Attribute)
 attribute_list = word (sign s.Annotation) ▷ list attribute ▷ word (sign s.Close) ▷ nothing (λ c xs a. xs)
 
-abbrev concat : List (List Attribute) → List Attribute
+abbrev pub concat : List (List Attribute) → List Attribute
 concat [] = []
 concat (xs ∷ xss) = xs ++ concat xss
 
 -- a struct behind its name
-abbrev struct_behind : P (Id → Span → List Attribute → StructTree)
+abbrev pub struct_behind : P (Id → Span → List Attribute → StructTree)
 struct_behind = word (sign s.BraceOpen) ▷ many (below MemberOf (λ x. x)) (λ xs. xs) ▷ word (sign s.BraceClose) ▷ word (sign s.Semicolon) ▷ nothing (λ z c ms o n p as'. record { attributes = as'; place = p; name = n; members = ms })
 
-abbrev pointer_function : P (Id → Span → Item)
+abbrev pub pointer_function : P (Id → Span → Item)
 pointer_function = word (sign s.Star) ▷ name ▷ function_behind ▷ nothing (λ f n a x p. i.Function (f n p (Some (e.Pointer x))))
 
-abbrev result_type : P (Span × Option Ty)
+abbrev pub result_type : P (Span × Option Ty)
 result_type = by_next (token (key k.Void) 0 (λ x. (x.place, None))) (int_type ▷ nothing (λ ty. (ty.0, Some ty.1)))
 
-abbrev item_of : R Item
+abbrev pub item_of : R Item
 item_of =
     pick (form (attribute_list ▷ many attribute_list (λ xs. xs) ▷ word (key k.Struct) ▷ name ▷ struct_behind ▷ nothing (λ f n p more one. i.Struct (f n p (concat (one ∷ more))))))
     (pick (form (word (key k.Struct) ▷ name ▷ by_next (struct_behind ▷ nothing (λ f n p. i.Struct (f n p []))) pointer_function ▷ nothing (λ f n p. f n p))) (form (result_type ▷ name ▷ function_behind ▷ nothing (λ f n ty. i.Function (f n ty.0 ty.1)))))
 
 -- a program with an item at least
-abbrev program : R (List Item)
+abbrev pub program : R (List Item)
 program = form (below ItemOf (λ x. x) ▷ many (below ItemOf (λ x. x)) (λ xs. xs) ▷ nothing (λ xs x. x ∷ xs))
 
 -- ---- the grammar

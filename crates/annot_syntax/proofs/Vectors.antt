@@ -1,0 +1,20 @@
+-- What lies in vectors.
+use Rattle.std.proofs.Common.{◌≡◌, ℕ, List, [], ◌∷◌, ◌++◌, refl, ap, ◌∙◌, Vec, map}
+use Rattle.std.specs.declared.alloc.Global.{Global}
+use mathlib.Core.Former.{Count}
+use Rattle.c_syntax.specs.declared.token.Span.{Span}
+use Rattle.c_syntax.specs.declared.expressions.Expr as x
+use Rattle.c_syntax.specs.Expressions as e
+use Rattle.c_syntax.specs.Views.{exp, exps, row}
+use Rattle.c_syntax.specs.Grammar.{exps_of}
+
+row_items : (n : _) (all : x.Row_of-Expr n) → row all ≡ exps_of (exps (x.items-the_row-Expr n all))
+row_items n x.end_of-Expr = refl
+row_items n (x.more_of-Expr a rest) = ap (e.With (exp a)) (row_items _ rest)
+
+abbrev mine_row : x.Expr → (n : Count) × x.Row_of-Expr n
+mine_row (x.Mine' o n all) = (_, all)
+mine_row _ = (_, x.end_of-Expr)
+
+pub mine : (span : Span) (all : Vec x.Expr Global) → exp (x.Mine span all) ≡ e.Mine span (exps_of (exps all.items))
+mine span all = let r = mine_row (x.Mine span all) in ap (e.Mine span) (row_items r.0 r.1 ∙ ap (λ (es : List x.Expr). exps_of (exps es)) (x.items_hidden-the_row-Expr-0 all))
