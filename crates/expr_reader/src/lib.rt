@@ -1,0 +1,12 @@
+//! The reader of sources in the whole language, by recursive descent: one function for each row of the grammar.
+#![tactic(auto)]
+
+pub mod arrows;
+pub mod expressions;
+pub mod forms;
+pub mod leaves;
+pub mod levels;
+pub mod memory;
+pub mod reading;
+pub mod tokens;
+pub mod types;
