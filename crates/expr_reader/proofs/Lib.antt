@@ -5,3 +5,4 @@ pub mod Many
 pub mod Takes
 pub mod Vectors
 pub mod Climbs
+pub mod Outcomes

@@ -1,22 +1,39 @@
 //! Expressions.
 
-ghost use Rattle.std.specs.Prelude.{◌≡◌, ◌≤◌, ◌<◌, ◌+◌, IfOk};
+ghost use Rattle.std.specs.Prelude.{◌≡◌, ◌==◌, ◌≤◌, ◌<◌, ◌+◌, ◌^◌, true, IfOk, IsTrue};
 ghost use Rattle.ebnf.specs.Reading.{reads};
+ghost use Rattle.ebnf.specs.Sets.{has, first};
+ghost use Rattle.ebnf.specs.Derives.{next};
 ghost use Rattle.c_syntax.specs.Grammar as g;
 ghost use Rattle.c_syntax.specs.Language.{language};
-ghost use Rattle.c_syntax.specs.Views.{exp, exps};
+ghost use Rattle.c_syntax.specs.Views.{id, exp, exps};
 ghost use Rattle.expr_reader.specs.Levels as levels;
-ghost use Rattle.expr_reader.specs.Levels.{level};
-ghost use Rattle.expr_reader.specs.Reading.{Gives, lexemes, part, rule_at};
-ghost use Rattle.expr_reader.specs.Levels.{mode_of};
+ghost use Rattle.expr_reader.specs.Levels.{mode_of, tier_of, level, link, linked, joined, one_link};
+ghost use Rattle.expr_reader.specs.Forms as forms;
+ghost use Rattle.expr_reader.specs.Lists.{behind_comma};
+ghost use Rattle.expr_reader.specs.Reading.{Gives, lexemes, part, rule_at, extended, entered};
 
-use crate::levels::{Mode, Tier};
-use crate::reading::{ReadFault, Reading};
+use crate::arrows::{arrows, climb};
+use crate::forms::{
+    Form, Pair, argument_tier, form_at, joined, mine_of, second_tier, word_of_function, word_of_pair,
+    word_of_quantifier,
+};
+use crate::leaves::{constant, named, null, number};
+use crate::levels::{Mode, Tier, below, is_link, operator_at, right, top};
+use crate::memory::{add, boxed, single};
+use crate::reading::{Parsed, ReadFault, Reading, fits};
+use crate::tokens::{
+    next_is, next_is_key, next_is_name, next_is_number, take, take_name, take_operator, take_spec, take_unary,
+};
+use crate::types::gtype;
 use c_syntax::expressions::Expr;
-use c_syntax::token::Token;
+use c_syntax::token::{Keyword, Sign, SpecWord, Token};
+use c_syntax::tree::{BinaryOperator, Quantifier, SpecFunction, UnaryOperator};
 use std::alloc::Global;
 
 /// An expression of this level, no higher than room.
+#[cycle(expressions)]
+#[tactic(auto, unfolding(ebnf::specs::Reading::reads))]
 pub fn expression<'a>(
     alloc: Global,
     mode: Mode,
@@ -28,38 +45,388 @@ pub fn expression<'a>(
     ensures gives { Gives exp result (reads language room (level mode tier) (lexemes tokens.now)) }
     ensures low { IfOk result (λ x. x.height ≤ room) }
 {
-    Err(ReadFault::OutOfMemory)
+    if room == 0 {
+        return Err(ReadFault::TooDeep(tokens));
+    }
+    on_level(alloc, mode, tier, room - 1, tokens)
 }
 
-/// A number, `NULL` or an expression in brackets.
-pub fn unnamed<'a>(
+/// An expression of this level, whose parts have room for so much height.
+#[cycle(expressions)]
+fn on_level<'a>(
     alloc: Global,
     mode: Mode,
+    tier: Tier,
     room: u32,
     tokens: &'a [Token<'a>],
 ) -> Reading<'a, Expr>
     requires room { room < 1000 }
-    ensures gives { Gives exp result (rule_at room (g.unnamed (mode_of mode)) (lexemes tokens.now)) }
+    ensures gives { Gives exp result (rule_at room (g.rule (level mode tier)) (lexemes tokens.now)) }
     ensures low { IfOk result (λ x. x.height ≤ room + 1) }
 {
-    Err(ReadFault::OutOfMemory)
+    match tier {
+        Tier::Prefix => prefix(alloc, mode, room, tokens),
+        _ => {
+            let left = on_level(alloc, mode, below(tier), room, tokens)?;
+            links(alloc, mode, tier, room, left)
+        }
+    }
 }
 
-/// An expression that no operator stands in, but in brackets.
-pub fn primary<'a>(
+/// Goes on with the operators of this level. Each adds a level of height, so there are no more of them than there is room.
+#[cycle(expressions)]
+fn links<'a>(
     alloc: Global,
     mode: Mode,
+    tier: Tier,
+    room: u32,
+    left: Parsed<'a, Expr>,
+) -> Reading<'a, Expr>
+    requires room { room < 1000 }
+    requires low { left.height ≤ room + 1 }
+    ensures gives { Gives exp result (linked (room + 1) room (link (mode_of mode) (tier_of tier)) (exp left.entry.value) left.entry.height (lexemes left.entry.rest.now)) }
+    ensures low { IfOk result (λ x. x.height ≤ room + 1) }
+{
+    let mut found = left;
+    'chain: for _ in 0..room + 1 {
+        if !is_link(mode, tier, found.rest) {
+            return Ok(found);
+        }
+        found = one_link(alloc, mode, tier, room, found)?;
+    }
+    if is_link(mode, tier, found.rest) {
+        return Err(ReadFault::TooDeep(found.rest));
+    }
+    Ok(found)
+}
+
+/// Goes on with the operator of this level that comes next.
+#[cycle(expressions)]
+fn one_link<'a>(
+    alloc: Global,
+    mode: Mode,
+    tier: Tier,
+    room: u32,
+    left: Parsed<'a, Expr>,
+) -> Reading<'a, Expr>
+    requires room { room < 1000 }
+    requires begins { has (first language (link (mode_of mode) (tier_of tier))) (next language (lexemes left.rest.now)) ≡ true }
+    ensures gives { Gives exp result (levels.one_link room (link (mode_of mode) (tier_of tier)) (exp left.entry.value) left.entry.height (lexemes left.entry.rest.now)) }
+    ensures low { IfOk result (λ x. x.height ≤ room + 1) }
+{
+    fits(left.height.max(1), room, left.rest)?;
+    match operator_at(mode, tier, left.rest) {
+        None => conditional(alloc, mode, room, left),
+        Some(BinaryOperator::In) => {
+            fits(2, room, left.rest)?;
+            membership(alloc, room, left)
+        }
+        Some(operator) => binary(alloc, mode, operator, room, left),
+    }
+}
+
+/// `?`, an expression, `:` and another.
+#[cycle(expressions)]
+#[tactic(auto, unfolding(ebnf::specs::Reading::read))]
+fn conditional<'a>(alloc: Global, mode: Mode, room: u32, left: Parsed<'a, Expr>) -> Reading<'a, Expr>
+    requires room { room < 1000 }
+    requires low { left.height ≤ room }
+    ensures gives { Gives exp result (joined (exp left.entry.value) left.entry.height (part room (levels.conditional (mode_of mode)) (lexemes left.entry.rest.now))) }
+    ensures low { IfOk result (λ x. x.height ≤ room + 1) }
+{
+    let question = take(Sign::Question, left.rest)?;
+    let yes = expression(alloc, mode, Tier::Choice, room, question.rest)?;
+    let colon = take(Sign::Colon, yes.rest)?;
+    let no = expression(alloc, mode, Tier::Choice, room, colon.rest)?;
+    let height = left.height.max(yes.height).max(no.height) + 1;
+    let condition = boxed(alloc, left.value)?;
+    let first = boxed(alloc, yes.value)?;
+    let second = boxed(alloc, no.value)?;
+    Ok(Parsed {
+        value: Expr::Conditional(question.value, condition, first, second),
+        height,
+        rest: no.rest,
+    })
+}
+
+/// An operator and what stands right of it.
+#[cycle(expressions)]
+#[tactic(auto, unfolding(ebnf::specs::Reading::read))]
+fn binary<'a>(
+    alloc: Global,
+    mode: Mode,
+    operator: BinaryOperator,
+    room: u32,
+    left: Parsed<'a, Expr>,
+) -> Reading<'a, Expr>
+    requires room { room < 1000 }
+    requires low { left.height ≤ room }
+    ensures gives { Gives exp result (joined (exp left.entry.value) left.entry.height (part room (levels.binary (mode_of mode) operator) (lexemes left.entry.rest.now))) }
+    ensures low { IfOk result (λ x. x.height ≤ room + 1) }
+{
+    let sign = take_operator(operator, left.rest)?;
+    let other = expression(alloc, mode, right(operator), room, sign.rest)?;
+    let height = left.height.max(other.height) + 1;
+    let left = boxed(alloc, left.value)?;
+    let right = boxed(alloc, other.value)?;
+    Ok(Parsed {
+        value: Expr::Binary(sign.value, operator, left, right),
+        height,
+        rest: other.rest,
+    })
+}
+
+/// `\in` and an owned set.
+#[cycle(expressions)]
+#[tactic(auto, unfolding(ebnf::specs::Reading::read))]
+fn membership<'a>(alloc: Global, room: u32, left: Parsed<'a, Expr>) -> Reading<'a, Expr>
+    requires room { room < 1000 }
+    requires low { left.height ≤ room }
+    ensures gives { Gives exp result (joined (exp left.entry.value) left.entry.height (part room levels.membership (lexemes left.entry.rest.now))) }
+    ensures low { IfOk result (λ x. x.height ≤ room + 1) }
+{
+    let word = take_spec(SpecWord::In, left.rest)?;
+    let set = owned_set(alloc, room, word.rest)?;
+    let height = left.height.max(set.height) + 1;
+    let member = boxed(alloc, left.value)?;
+    let owner = boxed(alloc, set.value)?;
+    Ok(Parsed {
+        value: Expr::Binary(word.value, BinaryOperator::In, member, owner),
+        height,
+        rest: set.rest,
+    })
+}
+
+/// An expression with `!` or `-` in front, or one with arrows behind.
+#[cycle(expressions)]
+fn prefix<'a>(alloc: Global, mode: Mode, room: u32, tokens: &'a [Token<'a>]) -> Reading<'a, Expr>
+    requires room { room < 1000 }
+    ensures gives { Gives exp result (rule_at room (g.rule (g.Level (mode_of mode) g.Prefix)) (lexemes tokens.now)) }
+    ensures low { IfOk result (λ x. x.height ≤ room + 1) }
+{
+    if next_is(Sign::Not, tokens) {
+        fits(1, room, tokens)?;
+        return unary(alloc, mode, UnaryOperator::Not, room, tokens);
+    }
+    if next_is(Sign::Minus, tokens) {
+        fits(1, room, tokens)?;
+        return unary(alloc, mode, UnaryOperator::Negate, room, tokens);
+    }
+    let left = primary(alloc, mode, room, tokens)?;
+    arrows(alloc, mode, room, left)
+}
+
+/// An operator and its operand.
+#[cycle(expressions)]
+#[tactic(auto, unfolding(ebnf::specs::Reading::read, ebnf::specs::Reading::read_rule))]
+fn unary<'a>(
+    alloc: Global,
+    mode: Mode,
+    operator: UnaryOperator,
     room: u32,
     tokens: &'a [Token<'a>],
 ) -> Reading<'a, Expr>
+    requires room { room < 1000 }
+    ensures gives { Gives exp result (rule_at room (levels.unary (mode_of mode) operator) (lexemes tokens.now)) }
+    ensures low { IfOk result (λ x. x.height ≤ room + 1) }
+{
+    let sign = take_unary(operator, tokens)?;
+    let operand = expression(alloc, mode, Tier::Prefix, room, sign.rest)?;
+    let height = operand.height + 1;
+    let held = boxed(alloc, operand.value)?;
+    Ok(Parsed {
+        value: Expr::Unary(sign.value, operator, held),
+        height,
+        rest: operand.rest,
+    })
+}
+
+/// An expression that no operator stands in, but in brackets.
+#[cycle(expressions)]
+fn primary<'a>(alloc: Global, mode: Mode, room: u32, tokens: &'a [Token<'a>]) -> Reading<'a, Expr>
     requires room { room < 1000 }
     ensures gives { Gives exp result (rule_at room (g.primary (mode_of mode)) (lexemes tokens.now)) }
     ensures low { IfOk result (λ x. x.height ≤ room + 1) }
 {
-    Err(ReadFault::OutOfMemory)
+    if next_is_name(tokens) {
+        return named(alloc, tokens);
+    }
+    match mode {
+        Mode::Code => unnamed(alloc, Mode::Code, room, tokens),
+        Mode::Spec => match form_at(tokens) {
+            None => unnamed(alloc, Mode::Spec, room, tokens),
+            Some(form) => formed(alloc, form, room, tokens),
+        },
+    }
+}
+
+/// A number, `NULL` or an expression in brackets.
+#[cycle(expressions)]
+fn unnamed<'a>(alloc: Global, mode: Mode, room: u32, tokens: &'a [Token<'a>]) -> Reading<'a, Expr>
+    requires room { room < 1000 }
+    ensures gives { Gives exp result (rule_at room (g.unnamed (mode_of mode)) (lexemes tokens.now)) }
+    ensures low { IfOk result (λ x. x.height ≤ room + 1) }
+{
+    if next_is_number(tokens) {
+        return number(tokens);
+    }
+    if next_is_key(Keyword::Null, tokens) {
+        return null(tokens);
+    }
+    if !next_is(Sign::Open, tokens) {
+        return Err(ReadFault::Unexpected(tokens));
+    }
+    fits(1, room, tokens)?;
+    group(alloc, mode, room, tokens)
+}
+
+/// An expression in brackets.
+#[cycle(expressions)]
+#[tactic(auto, using(crate::proofs::Primaries::brackets), unfolding(ebnf::specs::Reading::read, ebnf::specs::Reading::read_rule))]
+fn group<'a>(alloc: Global, mode: Mode, room: u32, tokens: &'a [Token<'a>]) -> Reading<'a, Expr>
+    requires room { room < 1000 }
+    ensures gives { Gives exp result (rule_at room (g.group (mode_of mode)) (lexemes tokens.now)) }
+    ensures low { IfOk result (λ x. x.height ≤ room + 1) }
+{
+    let open = take(Sign::Open, tokens)?;
+    let inner = expression(alloc, mode, top(mode), room, open.rest)?;
+    let close = take(Sign::Close, inner.rest)?;
+    let held = boxed(alloc, inner.value)?;
+    Ok(Parsed {
+        value: Expr::Group(open.value, held),
+        height: inner.height + 1,
+        rest: close.rest,
+    })
+}
+
+/// An expression that begins with the word of a form.
+#[cycle(expressions)]
+fn formed<'a>(alloc: Global, form: Form, room: u32, tokens: &'a [Token<'a>]) -> Reading<'a, Expr>
+    requires room { room < 1000 }
+    requires here { next language (lexemes tokens.now) ≡ forms.class_of form }
+    ensures gives { Gives exp result (rule_at room (g.primary g.InSpec) (lexemes tokens.now)) }
+    ensures low { IfOk result (λ x. x.height ≤ room + 1) }
+{
+    match form {
+        Form::Constant(value) => constant(value, tokens),
+        Form::Function(function) => {
+            fits(1, room, tokens)?;
+            apply(alloc, function, room, tokens)
+        }
+        Form::Mine => {
+            fits(1, room, tokens)?;
+            mine(alloc, room, tokens)
+        }
+        Form::Pair(pair) => {
+            fits(1, room, tokens)?;
+            paired(alloc, pair, room, tokens)
+        }
+        Form::Quantifier(quantifier) => {
+            fits(1, room, tokens)?;
+            quantified(alloc, quantifier, room, tokens)
+        }
+    }
+}
+
+/// A word of one argument.
+#[cycle(expressions)]
+#[tactic(auto, using(crate::proofs::Primaries::argument), unfolding(ebnf::specs::Reading::read, ebnf::specs::Reading::read_rule))]
+fn apply<'a>(
+    alloc: Global,
+    function: SpecFunction,
+    room: u32,
+    tokens: &'a [Token<'a>],
+) -> Reading<'a, Expr>
+    requires room { room < 1000 }
+    ensures gives { Gives exp result (rule_at room (forms.apply function) (lexemes tokens.now)) }
+    ensures low { IfOk result (λ x. x.height ≤ room + 1) }
+{
+    let word = take_spec(word_of_function(function), tokens)?;
+    let open = take(Sign::Open, word.rest)?;
+    let argument = expression(alloc, Mode::Spec, argument_tier(function), room, open.rest)?;
+    let close = take(Sign::Close, argument.rest)?;
+    let height = argument.height + 1;
+    let held = boxed(alloc, argument.value)?;
+    Ok(Parsed {
+        value: Expr::Apply(word.value, function, held),
+        height,
+        rest: close.rest,
+    })
+}
+
+/// A word of two arguments.
+#[cycle(expressions)]
+#[tactic(auto, unfolding(ebnf::specs::Reading::read, ebnf::specs::Reading::read_rule))]
+fn paired<'a>(alloc: Global, pair: Pair, room: u32, tokens: &'a [Token<'a>]) -> Reading<'a, Expr>
+    requires room { room < 1000 }
+    ensures gives { Gives exp result (rule_at room (forms.paired pair) (lexemes tokens.now)) }
+    ensures low { IfOk result (λ x. x.height ≤ room + 1) }
+{
+    let word = take_spec(word_of_pair(pair), tokens)?;
+    let open = take(Sign::Open, word.rest)?;
+    let first = expression(alloc, Mode::Spec, Tier::Choice, room, open.rest)?;
+    let comma = take(Sign::Comma, first.rest)?;
+    let second = expression(alloc, Mode::Spec, second_tier(pair), room, comma.rest)?;
+    let close = take(Sign::Close, second.rest)?;
+    let height = first.height.max(second.height) + 1;
+    let first = boxed(alloc, first.value)?;
+    let second = boxed(alloc, second.value)?;
+    Ok(Parsed {
+        value: joined(pair, word.value, first, second),
+        height,
+        rest: close.rest,
+    })
+}
+
+/// `\mine` and its arguments.
+#[cycle(expressions)]
+#[tactic(auto, unfolding(ebnf::specs::Reading::read, ebnf::specs::Reading::read_rule))]
+fn mine<'a>(alloc: Global, room: u32, tokens: &'a [Token<'a>]) -> Reading<'a, Expr>
+    requires room { room < 1000 }
+    ensures gives { Gives exp result (rule_at room forms.mine (lexemes tokens.now)) }
+    ensures low { IfOk result (λ x. x.height ≤ room + 1) }
+{
+    let word = take_spec(SpecWord::Mine, tokens)?;
+    let open = take(Sign::Open, word.rest)?;
+    let all = list(alloc, Mode::Spec, Tier::Choice, room, open.rest)?;
+    let close = take(Sign::Close, all.rest)?;
+    Ok(Parsed {
+        value: mine_of(word.value, all.value),
+        height: all.height + 1,
+        rest: close.rest,
+    })
+}
+
+/// A quantifier, which reaches as far right as it can.
+#[cycle(expressions)]
+#[tactic(auto, unfolding(ebnf::specs::Reading::read, ebnf::specs::Reading::read_rule))]
+fn quantified<'a>(
+    alloc: Global,
+    quantifier: Quantifier,
+    room: u32,
+    tokens: &'a [Token<'a>],
+) -> Reading<'a, Expr>
+    requires room { room < 1000 }
+    ensures gives { Gives exp result (rule_at room (forms.quantified quantifier) (lexemes tokens.now)) }
+    ensures low { IfOk result (λ x. x.height ≤ room + 1) }
+{
+    let word = take_spec(word_of_quantifier(quantifier), tokens)?;
+    let ty = gtype(alloc, room, word.rest)?;
+    let name = take_name(alloc, 1, ty.rest)?;
+    let semicolon = take(Sign::Semicolon, name.rest)?;
+    let body = expression(alloc, Mode::Spec, Tier::Equivalence, room, semicolon.rest)?;
+    let height = ty.height.max(name.height).max(body.height) + 1;
+    let held = boxed(alloc, body.value)?;
+    let (_, declared) = ty.value;
+    Ok(Parsed {
+        value: Expr::Quantified(word.value, quantifier, declared, name.value, held),
+        height,
+        rest: body.rest,
+    })
 }
 
 /// Expressions of this level, with commas between.
+#[cycle(expressions)]
 pub fn list<'a>(
     alloc: Global,
     mode: Mode,
@@ -71,5 +438,83 @@ pub fn list<'a>(
     ensures gives { Gives (λ v. exps v.items) result (part room (g.list (levels.whole mode tier)) (lexemes tokens.now)) }
     ensures low { IfOk result (λ x. x.height ≤ room) }
 {
-    Err(ReadFault::OutOfMemory)
+    let first = expression(alloc, mode, tier, room, tokens)?;
+    let mut found = Parsed {
+        value: single(alloc, first.value)?,
+        height: first.height,
+        rest: first.rest,
+    };
+    'more: while next_is(Sign::Comma, found.rest) {
+        found = one_more(alloc, mode, tier, room, found)?;
+    }
+    Ok(found)
+}
+
+/// A comma, and one more expression.
+#[cycle(expressions)]
+fn one_more<'a>(
+    alloc: Global,
+    mode: Mode,
+    tier: Tier,
+    room: u32,
+    before: Parsed<'a, Vec<Expr>>,
+) -> Reading<'a, Vec<Expr>>
+    requires room { room < 1000 }
+    requires low { before.height ≤ room }
+    ensures gives { Gives (λ v. exps v.items) result (extended (exps before.entry.value.items) before.entry.height (entered room (behind_comma (levels.whole mode tier)) (lexemes before.entry.rest.now))) }
+    ensures low { IfOk result (λ x. x.height ≤ room) }
+{
+    let mut all = before.value;
+    fits(1, room, before.rest)?;
+    let comma = take(Sign::Comma, before.rest)?;
+    let next = expression(alloc, mode, tier, room, comma.rest)?;
+    add(&mut all, next.value)?;
+    Ok(Parsed {
+        value: all,
+        height: before.height.max(next.height),
+        rest: next.rest,
+    })
+}
+
+/// An expression that ends with `->\owns`.
+#[cycle(expressions)]
+fn owned_set<'a>(alloc: Global, room: u32, tokens: &'a [Token<'a>]) -> Reading<'a, Expr>
+    requires room { room < 1000 }
+    ensures gives { Gives exp result (reads language room g.OwnedSet (lexemes tokens.now)) }
+    ensures low { IfOk result (λ x. x.height ≤ room) }
+{
+    if room == 0 {
+        return Err(ReadFault::TooDeep(tokens));
+    }
+    let left = set_start(alloc, room - 1, tokens)?;
+    climb(alloc, room - 1, left)
+}
+
+/// What an owned set begins with.
+#[cycle(expressions)]
+fn set_start<'a>(alloc: Global, room: u32, tokens: &'a [Token<'a>]) -> Reading<'a, Expr>
+    requires room { room < 1000 }
+    ensures gives { Gives exp result (reads language room g.SetStart (lexemes tokens.now)) }
+    ensures low { IfOk result (λ x. x.height ≤ room) }
+{
+    if room == 0 {
+        return Err(ReadFault::TooDeep(tokens));
+    }
+    set_primary(alloc, room - 1, tokens)
+}
+
+/// A primary of an annotation that is no quantifier.
+#[cycle(expressions)]
+fn set_primary<'a>(alloc: Global, room: u32, tokens: &'a [Token<'a>]) -> Reading<'a, Expr>
+    requires room { room < 1000 }
+    ensures gives { Gives exp result (rule_at room g.set_start (lexemes tokens.now)) }
+    ensures low { IfOk result (λ x. x.height ≤ room + 1) }
+{
+    if next_is_name(tokens) {
+        return named(alloc, tokens);
+    }
+    match form_at(tokens) {
+        None | Some(Form::Quantifier(_)) => unnamed(alloc, Mode::Spec, room, tokens),
+        Some(form) => formed(alloc, form, room, tokens),
+    }
 }

@@ -1,0 +1,88 @@
+use Rattle.std.proofs.Common.{◌≡◌, ◌≤◌, ◌+◌, ◌-◌, ◌*◌, length}
+use Rattle.c_syntax.specs.Views.{exp, exps}
+use Rattle.c_syntax.specs.Grammar.{list}
+use Rattle.expr_reader.specs.Levels.{mode_of, tier_of, link, linked, number, whole}
+use Rattle.expr_reader.specs.Reading.{lexemes, part}
+use Rattle.expr_reader.specs.Lists.{listed}
+use Rattle.expr_reader.proofs.expressions.+expressions.Given as goal
+
+abbrev pub decreases-expression : goal.decreases-expression
+decreases-expression l = 64 * l.room
+
+abbrev pub decreases-on_level : goal.decreases-on_level
+decreases-on_level l = 64 * l.room + 40 + number (tier_of l.tier)
+
+abbrev pub decreases-links : goal.decreases-links
+decreases-links l = 64 * l.room + 12
+
+abbrev pub decreases-one_link : goal.decreases-one_link
+decreases-one_link l = 64 * l.room + 11
+
+abbrev pub decreases-conditional : goal.decreases-conditional
+decreases-conditional l = 64 * l.room + 10
+
+abbrev pub decreases-binary : goal.decreases-binary
+decreases-binary l = 64 * l.room + 10
+
+abbrev pub decreases-membership : goal.decreases-membership
+decreases-membership l = 64 * l.room + 10
+
+abbrev pub decreases-prefix : goal.decreases-prefix
+decreases-prefix l = 64 * l.room + 30
+
+abbrev pub decreases-unary : goal.decreases-unary
+decreases-unary l = 64 * l.room + 20
+
+abbrev pub decreases-primary : goal.decreases-primary
+decreases-primary l = 64 * l.room + 25
+
+abbrev pub decreases-unnamed : goal.decreases-unnamed
+decreases-unnamed l = 64 * l.room + 20
+
+abbrev pub decreases-group : goal.decreases-group
+decreases-group l = 64 * l.room + 4
+
+abbrev pub decreases-formed : goal.decreases-formed
+decreases-formed l = 64 * l.room + 20
+
+abbrev pub decreases-apply : goal.decreases-apply
+decreases-apply l = 64 * l.room + 4
+
+abbrev pub decreases-paired : goal.decreases-paired
+decreases-paired l = 64 * l.room + 4
+
+abbrev pub decreases-mine : goal.decreases-mine
+decreases-mine l = 64 * l.room + 6
+
+abbrev pub decreases-quantified : goal.decreases-quantified
+decreases-quantified l = 64 * l.room + 4
+
+abbrev pub decreases-list : goal.decreases-list
+decreases-list l = 64 * l.room + 5
+
+abbrev pub decreases-one_more : goal.decreases-one_more
+decreases-one_more l = 64 * l.room + 4
+
+abbrev pub decreases-owned_set : goal.decreases-owned_set
+decreases-owned_set l = 64 * l.room + 3
+
+abbrev pub decreases-set_start : goal.decreases-set_start
+decreases-set_start l = 64 * l.room + 2
+
+abbrev pub decreases-set_primary : goal.decreases-set_primary
+decreases-set_primary l = 64 * l.room + 24
+
+abbrev pub invariant-links-chain : goal.invariant-links-chain
+invariant-links-chain l = record {
+  low : l.found.height ≤ l.room + 1;
+  same : linked (l.room + 1 - l.counter) l.room (link (mode_of l.mode) (tier_of l.tier)) (exp l.found.value) l.found.height (lexemes l.found.rest.now) ≡ linked (l.room + 1) l.room (link (mode_of l.mode) (tier_of l.tier)) (exp l.fn.left.value) l.fn.left.height (lexemes l.fn.left.rest.now);
+}
+
+abbrev pub decreases-list-more : goal.decreases-list-more
+decreases-list-more l = length l.found.rest.now
+
+abbrev pub invariant-list-more : goal.invariant-list-more
+invariant-list-more l = record {
+  low : l.found.height ≤ l.room;
+  same : listed l.room (whole l.mode l.tier) (exps l.found.value.items) l.found.height (lexemes l.found.rest.now) ≡ part l.room (list (whole l.mode l.tier)) (lexemes l.tokens);
+}
