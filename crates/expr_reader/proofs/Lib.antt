@@ -6,3 +6,4 @@ pub mod Takes
 pub mod Vectors
 pub mod Climbs
 pub mod Outcomes
+pub mod Commas

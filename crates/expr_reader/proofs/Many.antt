@@ -57,10 +57,15 @@ module _ {B : Type 0} (r : List Lexeme → Out language B) (cs : List ℕ) (take
   goes xs h ts ys k mid e q = step xs h ts e ∙ ap (λ out. on language out (λ ys k mid. through ys k (all mid))) q
 
   -- a fault of one item is one of all
-  pub fails : {X Y C : Type 0} (v : X → List B) (w : Y → C) (xs : List B) (h : ℕ) (ts : List Lexeme) (e : ReadFault) (out : Out language C) (then : List B → ℕ → List Lexeme → Out language C) → has cs (next language ts) ≡ true → Gives {X = X} v (Err e) (extended xs h (r ts)) → on language (through xs h (all ts)) then ≡ out → Gives {X = Y} w (Err e) out
-  fails v w xs h ts (f.Unexpected rest) out then e g same = sym same ∙ ap (λ o. on language o then) (step xs h ts e) ∙ ap (λ o. on language (on language o (λ ys k mid. through ys k (all mid))) then) g
-  fails v w xs h ts (f.TooDeep rest) out then e g same = sym same ∙ ap (λ o. on language o then) (step xs h ts e) ∙ ap (λ o. on language (on language o (λ ys k mid. through ys k (all mid))) then) g
-  fails v w xs h ts f.OutOfMemory out then e g same = tt
+  pub fails : {X Y C : Type 0} (v : X → List B) (w : Y → C) (xs : List B) (h : ℕ) (ts : List Lexeme) (e : ReadFault) (out : Out language C) (rest_of_it : List B → ℕ → List Lexeme → Out language C) → has cs (next language ts) ≡ true → Gives {X = X} v (Err e) (extended xs h (r ts)) → on language (through xs h (all ts)) rest_of_it ≡ out → Gives {X = Y} w (Err e) out
+  fails v w xs h ts (f.Unexpected rest) out rest_of_it e g same = sym same ∙ ap (λ o. on language o rest_of_it) (step xs h ts e) ∙ ap (λ o. on language (on language o (λ ys k mid. through ys k (all mid))) rest_of_it) g
+  fails v w xs h ts (f.TooDeep rest) out rest_of_it e g same = sym same ∙ ap (λ o. on language o rest_of_it) (step xs h ts e) ∙ ap (λ o. on language (on language o (λ ys k mid. through ys k (all mid))) rest_of_it) g
+  fails v w xs h ts f.OutOfMemory out rest_of_it e g same = tt
+
+  pub fails_at : {X Y : Type 0} (v : X → List B) (w : Y → List B) (xs : List B) (h : ℕ) (ts : List Lexeme) (e : ReadFault) (out : Out language (List B)) → has cs (next language ts) ≡ true → Gives {X = X} v (Err e) (extended xs h (r ts)) → through xs h (all ts) ≡ out → Gives {X = Y} w (Err e) out
+  fails_at v w xs h ts (f.Unexpected rest) out e g same = sym same ∙ step xs h ts e ∙ ap (λ o. on language o (λ ys k mid. through ys k (all mid))) g
+  fails_at v w xs h ts (f.TooDeep rest) out e g same = sym same ∙ step xs h ts e ∙ ap (λ o. on language o (λ ys k mid. through ys k (all mid))) g
+  fails_at v w xs h ts f.OutOfMemory out e g same = tt
 
   pub shorter : (xs : List B) (h : ℕ) (ts : List Lexeme) (ys : List B) (k : ℕ) (mid : List Lexeme) → extended xs h (r ts) ≡ Ok (ys, k, mid) → length mid < length ts
   shorter xs h ts ys k mid q = go (r ts) (λ b i rest e. takes ts b i rest e) q

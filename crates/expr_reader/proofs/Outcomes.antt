@@ -5,10 +5,12 @@ use Rattle.ebnf.specs.Rules.{pick}
 use Rattle.ebnf.specs.Sets.{has, first, first_rule, low, low_rule, is_empty, RuleOf}
 use Rattle.ebnf.specs.Derives.{next}
 use Rattle.ebnf.specs.Reading.{Out, Unexpected, TooDeep, on, enter, read, read_rule, reads}
-use Rattle.ebnf.specs.Tools.{true_not_false, le_true, true_le}
+use Rattle.ebnf.specs.Tools.{true_not_false, le_true, true_le, eq_true, true_eq}
 use Rattle.c_syntax.specs.declared.tree.BinaryOperator.{BinaryOperator}
 use Rattle.c_syntax.specs.declared.tree.BinaryOperator.TheVariants as op
 use Rattle.c_syntax.specs.declared.tree.UnaryOperator.{UnaryOperator}
+use denote.Bor.{Bor}
+use Rattle.c_syntax.specs.declared.token.Token.{Token}
 use Rattle.c_syntax.specs.Lexing.{Lexeme}
 use Rattle.c_syntax.specs.Expressions.{Exp}
 use Rattle.c_syntax.specs.Language.{language}
@@ -18,11 +20,11 @@ use Rattle.expr_reader.specs.declared.reading.Parsed.{Parsed}
 use Rattle.expr_reader.specs.declared.reading.ReadFault.{ReadFault}
 use Rattle.expr_reader.specs.declared.reading.ReadFault.TheVariants as f
 use Rattle.expr_reader.specs.Reading.{Gives, lexemes, part, rule_at}
-use Rattle.expr_reader.specs.Levels.{mode_of, tier_of, level, below, class_of, own, stands, binary, conditional, membership, link, joined, one_link, linked}
-use Rattle.expr_reader.proofs.Links.{level_read, binary_read, membership_read, membership_high}
+use Rattle.expr_reader.specs.Levels.{mode_of, tier_of, level, below, class_of, own, stands, number, binary, conditional, membership, link, joined, one_link, linked}
+use Rattle.expr_reader.proofs.Links.{begun_own, level_read, binary_read, membership_read, membership_high}
 
 -- a fault of what is read first is one of the whole
-pub first_err : {A X Y : Type 0} (v : X → A) (w : Y → Exp) (e : ReadFault) (out : Out language A) (more : A → ℕ → List Lexeme → Out language Exp) (whole : Out language Exp) → whole ≡ on language out more → Gives {X = X} v (Err e) out → Gives {X = Y} w (Err e) whole
+pub first_err : {A B X Y : Type 0} (v : X → A) (w : Y → B) (e : ReadFault) (out : Out language A) (more : A → ℕ → List Lexeme → Out language B) (whole : Out language B) → whole ≡ on language out more → Gives {X = X} v (Err e) out → Gives {X = Y} w (Err e) whole
 first_err v w (f.Unexpected rest) out more whole is g = is ∙ ap (λ o. on language o more) g
 first_err v w (f.TooDeep rest) out more whole is g = is ∙ ap (λ o. on language o more) g
 first_err v w f.OutOfMemory out more whole is g = tt
@@ -34,7 +36,44 @@ then_gives w r out a h mid more whole is e g = subst (λ o. Gives w r o) (sym (i
 pub same_gives : {X A : Type 0} (w : X → A) (r : Result (Parsed X) ReadFault) (out whole : Out language A) → whole ≡ out → Gives w r out → Gives w r whole
 same_gives w r out whole e g = subst (λ o. Gives w r o) (sym e) g
 
+pub high_gives : {X A : Type 0} (w : X → A) (e : ReadFault) (tokens : Bor (List Token)) (whole : Out language A) → e ≡ f.TooDeep tokens → whole ≡ Err (TooDeep, lexemes tokens.now) → Gives w (Err e) whole
+high_gives {X} w e tokens whole is q = subst (λ x. Gives {X = X} w (Err x) whole) (sym is) q
+
+-- ---- levels
+
+tiers : (t : g.Tier) → (number t == 0) ≡ true → t ≡ g.Prefix
+tiers g.Prefix h = refl
+tiers g.Product h = absurd (true_not_false _ h refl)
+tiers g.Sum h = absurd (true_not_false _ h refl)
+tiers g.Order h = absurd (true_not_false _ h refl)
+tiers g.Equality h = absurd (true_not_false _ h refl)
+tiers g.Conjunction h = absurd (true_not_false _ h refl)
+tiers g.Disjunction h = absurd (true_not_false _ h refl)
+tiers g.Choice h = absurd (true_not_false _ h refl)
+tiers g.Implication h = absurd (true_not_false _ h refl)
+tiers g.Equivalence h = absurd (true_not_false _ h refl)
+
+pub is_prefix_rule : (m : g.Mode) (t : g.Tier) (room : ℕ) (ts : List Lexeme) → (number t == 0) ≡ true → rule_at room (rule (g.Level m t)) ts ≡ rule_at room (rule (g.Level m g.Prefix)) ts
+is_prefix_rule m t room ts h = ap (λ t. rule_at room (rule (g.Level m t)) ts) (tiers t h)
+
+not_prefix : (t : g.Tier) → (number t == 0) ≡ false → t ≢ g.Prefix
+not_prefix t h e = true_not_false (number t == 0) (ap (λ t. number t == 0) e) h
+
+-- the level below is known by an equation
+pub level_plus : (m : g.Mode) (t u : g.Tier) (room : ℕ) (ts : List Lexeme) → (number t == 0) ≡ false → u ≡ below t → rule_at room (rule (g.Level m t)) ts ≡ on language (rule_at room (rule (g.Level m u)) ts) (λ l k rest. linked (room + 1) room (link m t) l k rest)
+level_plus m t u room ts h e =
+    let z : suc room ≡ room + 1 = omega arith in
+    level_read m t (not_prefix t h) room ts ∙ ap (λ i. on language (rule_at room (rule (g.Level m (below t))) ts) (λ l k rest. linked i room (link m t) l k rest)) z
+    ∙ ap (λ u. on language (rule_at room (rule (g.Level m u)) ts) (λ l k rest. linked (room + 1) room (link m t) l k rest)) (sym e)
+
 -- ---- one link
+
+-- `\in` comes next
+pub at_in : (m : g.Mode) (t : g.Tier) (c : ℕ) → has (first language (link m t)) c ≡ true → (c == class_of op.In) ≡ true → (own op.In ≡ t) × (stands m op.In ≡ true)
+at_in m t c h e = begun_own m t op.In (ap (has (first language (link m t))) (sym (eq_true c (class_of op.In) e)) ∙ h)
+
+pub not_in : (o : BinaryOperator) (c : ℕ) → c ≡ class_of o → (c == class_of op.In) ≡ false → o ≢ op.In
+not_in o c e h k = true_not_false (c == class_of op.In) (true_eq c (class_of op.In) (e ∙ ap class_of k)) h
 
 pub low_link : (m : g.Mode) (t : g.Tier) (c : ℕ) → has (first language (link m t)) c ≡ true → low language (link m t) ≡ 1
 unfolding first is_empty low

@@ -1,5 +1,5 @@
 -- Which rule of a primary is meant, by the next token.
-use Rattle.std.proofs.Common.{◌≡◌, ◌≢◌, ◌⊎◌, inl, inr, ⊎_elim, ℕ, zero, suc, ◌+◌, ◌<◌, ◌≤◌, max, nat_le, Bool, true, false, cond, List, [], ◌∷◌, ◌++◌, map, Result, Ok, Err, refl, ap, sym, ◌∙◌, subst, arith}
+use Rattle.std.proofs.Common.{◌≡◌, ◌≢◌, ◌⊎◌, inl, inr, ⊎_elim, ℕ, zero, suc, ◌+◌, ◌-◌, ◌<◌, ◌≤◌, max, nat_le, Bool, true, false, cond, List, [], ◌∷◌, ◌++◌, map, Result, Ok, Err, refl, ap, sym, ◌∙◌, subst, arith}
 use Rattle.std.specs.Prelude.{◌==◌, ◌&&◌, ◌||◌, if◌then◌else◌}
 use Rattle.ebnf.specs.Rules.{pick}
 use Rattle.ebnf.specs.Sets.{has, first, first_rule, low, low_rule, is_empty, RuleOf}
@@ -29,8 +29,9 @@ use Rattle.expr_reader.specs.declared.forms.Form.{Form}
 use Rattle.expr_reader.specs.declared.forms.Form.TheVariants as f
 use Rattle.expr_reader.specs.Reading.{part, rule_at}
 use Rattle.expr_reader.specs.Levels.{mode_of, level, top, unary_class, unary, arrow, linked}
+use Rattle.expr_reader.specs.Suffixes.{climbed}
 use Rattle.expr_reader.specs.Forms as forms
-use Rattle.expr_reader.specs.Forms.{class_of, constant_class, function_class, pair_class, quantifier_class}
+use Rattle.expr_reader.specs.Forms.{rule_of, form_low, is_quantifier, class_of, constant_class, function_class, pair_class, quantifier_class}
 
 pub brackets : (m : Mode) (room : ℕ) (ts : List Lexeme) → read language (reads language room) room (g.in_brackets (mode_of m)) ts ≡ on language (reads language room (level m (top m)) ts) (λ x i rest. Ok (x, i, rest))
 unfolding read
@@ -139,14 +140,6 @@ form_constant constants.This room ts e = rw e (rw (fits_one room) refl)
 form_constant constants.Me room ts e = rw e (rw (fits_one room) refl)
 form_constant constants.Result room ts e = rw e (rw (fits_one room) refl)
 
--- what a form's rule is, other than a constant
-abbrev pub rule_of : Form → RuleOf language Exp
-rule_of (f.Constant x) = forms.constant x
-rule_of (f.Function x) = forms.apply x
-rule_of f.Mine = forms.mine
-rule_of (f.Pair x) = forms.paired x
-rule_of (f.Quantifier x) = forms.quantified x
-
 abbrev pub entered_rule : ℕ → RuleOf language Exp → List Lexeme → Out language Exp
 entered_rule room r ts = if nat_le 1 room then rule_at room r ts else Err (TooDeep, ts)
 
@@ -231,10 +224,6 @@ pub set_named : (room : ℕ) (ts : List Lexeme) → next language ts ≡ 1 → r
 unfolding read_rule first_rule first low_rule low is_empty read
 set_named room ts e = rw e (rw (fits_one room) refl)
 
-abbrev pub is_quantifier : Form → Bool
-is_quantifier (f.Quantifier x) = true
-is_quantifier _ = false
-
 pub set_form : (x : Form) (room : ℕ) (ts : List Lexeme) → is_quantifier x ≡ false → next language ts ≡ class_of x → rule_at room g.set_start ts ≡ rule_at room (g.primary g.InSpec) ts
 unfolding read_rule first_rule first low_rule low is_empty
 set_form (f.Constant constants.True) room ts q e = rw e (rw (fits_one room) refl)
@@ -253,7 +242,7 @@ set_form (f.Pair pairs.ClaimsObject) room ts q e = rw e (rw (fits_one room) refl
 set_form (f.Pair pairs.Claims) room ts q e = rw e (rw (fits_one room) refl)
 set_form (f.Quantifier x) room ts q e = absurd (true_not_false _ refl q)
 
-set_other : (room : ℕ) (ts : List Lexeme) → (next language ts == 1) ≡ false → has (first_rule language g.spec_word) (next language ts) ≡ false → rule_at room g.set_start ts ≡ rule_at room (g.unnamed g.InSpec) ts
+pub set_other : (room : ℕ) (ts : List Lexeme) → (next language ts == 1) ≡ false → has (first_rule language g.spec_word) (next language ts) ≡ false → rule_at room g.set_start ts ≡ rule_at room (g.unnamed g.InSpec) ts
 unfolding first_rule first low_rule low is_empty read_rule
 set_other room ts h none = pick_other g.named (g.unnamed g.InSpec) g.spec_word room ts (ap (λ b. b || false) h) (fits_one room) ∙ go (has (first_rule language (g.unnamed g.InSpec)) (next language ts)) refl
   where
@@ -261,11 +250,67 @@ set_other room ts h none = pick_other g.named (g.unnamed g.InSpec) g.spec_word r
     go true e = rw e (rw (fits_one room) refl)
     go false e = rw e (rw none (sym (pick_none g.number (pick g.null (g.group g.InSpec)) room ts e)))
 
-pub set_quantified : (q : Quantifier) (room : ℕ) (ts : List Lexeme) → next language ts ≡ quantifier_class q → rule_at room g.set_start ts ≡ rule_at room (g.unnamed g.InSpec) ts
+pub quantifier_first : (x : Form) (c : ℕ) → is_quantifier x ≡ true → c ≡ class_of x → has (first_rule language g.spec_word) c ≡ false
 unfolding first_rule first is_empty
-set_quantified quantifiers.ForAll room ts e = set_other room ts (rw e refl) (rw e refl)
-set_quantified quantifiers.Exists room ts e = set_other room ts (rw e refl) (rw e refl)
+quantifier_first (f.Quantifier quantifiers.ForAll) c h e = rw e refl
+quantifier_first (f.Quantifier quantifiers.Exists) c h e = rw e refl
+quantifier_first (f.Constant x) c h e = absurd (true_not_false _ h refl)
+quantifier_first (f.Function x) c h e = absurd (true_not_false _ h refl)
+quantifier_first f.Mine c h e = absurd (true_not_false _ h refl)
+quantifier_first (f.Pair x) c h e = absurd (true_not_false _ h refl)
 
-pub set_unnamed : (room : ℕ) (ts : List Lexeme) → (next language ts == 1) ≡ false → ((f : Form) → next language ts ≢ class_of f) → rule_at room g.set_start ts ≡ rule_at room (g.unnamed g.InSpec) ts
+pub no_form_first : (c : ℕ) → ((f : Form) → c ≢ class_of f) → has (first_rule language g.spec_word) c ≡ false
 unfolding first_rule
-set_unnamed room ts h none = set_other room ts h (hasnt_left (first_rule language g.spec_word) (first_rule language g.quantifier) _ (other_forms _ none))
+no_form_first c none = hasnt_left (first_rule language g.spec_word) (first_rule language g.quantifier) _ (other_forms c none)
+
+constant_any : (x : Constant) (room : ℕ) (ts : List Lexeme) → rule_at 0 (forms.constant x) ts ≡ rule_at room (forms.constant x) ts
+unfolding read_rule read
+constant_any x room ts = refl
+
+pub form_read : (x : Form) (room : ℕ) (ts : List Lexeme) → next language ts ≡ class_of x → rule_at room (g.primary g.InSpec) ts ≡ cond (nat_le (form_low x) room) (rule_at room (rule_of x) ts) (Err (TooDeep, ts))
+form_read (f.Constant x) room ts e = form_constant x room ts e ∙ constant_any x room ts ∙ rw (true_le 0 room (omega arith)) refl
+form_read (f.Function x) room ts e = form_function x room ts e
+form_read f.Mine room ts e = form_mine room ts e
+form_read (f.Pair x) room ts e = form_pair x room ts e
+form_read (f.Quantifier x) room ts e = form_quantifier x room ts e
+
+pub form_fits : (x : Form) (room : ℕ) (ts : List Lexeme) → next language ts ≡ class_of x → nat_le (form_low x) room ≡ true → rule_at room (g.primary g.InSpec) ts ≡ rule_at room (rule_of x) ts
+form_fits x room ts e h = form_read x room ts e ∙ rw h refl
+
+pub form_high : (x : Form) (room : ℕ) (ts : List Lexeme) → next language ts ≡ class_of x → nat_le (form_low x) room ≡ false → rule_at room (g.primary g.InSpec) ts ≡ Err (TooDeep, ts)
+form_high x room ts e h = form_read x room ts e ∙ rw h refl
+
+pub constant_rule : (x : Constant) (room : ℕ) (ts : List Lexeme) → rule_at room (forms.constant x) ts ≡ rule_at 0 (forms.constant x) ts
+constant_rule x room ts = sym (constant_any x room ts)
+
+pub prefix_fits : (m : g.Mode) (o : UnaryOperator) (room : ℕ) (ts : List Lexeme) → next language ts ≡ unary_class o → nat_le 1 room ≡ true → rule_at room (g.rule (g.Level m g.Prefix)) ts ≡ rule_at room (unary m o) ts
+prefix_fits m o room ts e h = prefix_unary m o room ts e ∙ rw h refl
+
+pub prefix_high : (m : g.Mode) (o : UnaryOperator) (room : ℕ) (ts : List Lexeme) → next language ts ≡ unary_class o → nat_le 1 room ≡ false → rule_at room (g.rule (g.Level m g.Prefix)) ts ≡ Err (TooDeep, ts)
+prefix_high m o room ts e h = prefix_unary m o room ts e ∙ rw h refl
+
+pub postfix_plus : (m : g.Mode) (room : ℕ) (ts : List Lexeme) → (next language ts == sign s.Not) ≡ false → (next language ts == sign s.Minus) ≡ false → rule_at room (g.rule (g.Level m g.Prefix)) ts ≡ on language (rule_at room (g.primary m) ts) (λ l k rest. linked (room + 1) room (arrow m) l k rest)
+postfix_plus m room ts a b = let z : suc room ≡ room + 1 = omega arith in prefix_postfix m room ts a b ∙ ap (λ i. on language (rule_at room (g.primary m) ts) (λ l k rest. linked i room (arrow m) l k rest)) z
+
+-- ---- owned sets
+
+pub set_read : (room : ℕ) (ts : List Lexeme) → room ≢ 0 → reads language room g.OwnedSet ts ≡ on language (reads language (room - 1) g.SetStart ts) (λ l k rest. climbed (room - 1 + 1) (room - 1) l k rest)
+unfolding reads read_rule read
+set_read zero ts h = absurd (h refl)
+set_read (suc room) ts h =
+    let a : suc room - 1 ≡ room = omega arith in
+    let b : suc room ≡ suc room - 1 + 1 = omega arith in
+    go (reads language room g.SetStart ts) ∙ ap (λ i. on language (reads language room g.SetStart ts) (λ l k rest. climbed i room l k rest)) b ∙ ap (λ i. on language (reads language i g.SetStart ts) (λ l k rest. climbed (suc room - 1 + 1) i l k rest)) (sym a)
+  where
+    go : (out : Out language Exp) → on language (on language out (λ b i rest. Ok (b, i, rest))) (λ l k rest. climbed (suc room) room l k rest) ≡ on language out (λ l k rest. climbed (suc room) room l k rest)
+    go (Ok p) = refl
+    go (Err e) = refl
+
+pub reads_rule : (room : ℕ) (n : g.N) (ts : List Lexeme) → room ≢ 0 → reads language room n ts ≡ rule_at (room - 1) (g.rule n) ts
+unfolding reads
+reads_rule zero n ts h = absurd (h refl)
+reads_rule (suc room) n ts h = let a : suc room - 1 ≡ room = omega arith in ap (λ i. rule_at i (g.rule n) ts) (sym a)
+
+pub reads_none : (room : ℕ) (n : g.N) (ts : List Lexeme) → room ≡ 0 → reads language room n ts ≡ Err (TooDeep, ts)
+unfolding reads
+reads_none room n ts e = ap (λ i. reads language i n ts) e

@@ -18,3 +18,7 @@ mine_row _ = (_, x.end_of-Expr)
 
 pub mine : (span : Span) (all : Vec x.Expr Global) → exp (x.Mine span all) ≡ e.Mine span (exps_of (exps all.items))
 mine span all = let r = mine_row (x.Mine span all) in ap (e.Mine span) (row_items r.0 r.1 ∙ ap (λ (es : List x.Expr). exps_of (exps es)) (x.items_hidden-the_row-Expr-0 all))
+
+pub pushed : (xs : List x.Expr) (a : x.Expr) → exps (xs ++ a ∷ []) ≡ exps xs ++ exp a ∷ []
+pushed [] a = refl
+pushed (b ∷ xs) a = ap (λ ys. exp b ∷ ys) (pushed xs a)

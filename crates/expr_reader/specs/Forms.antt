@@ -1,5 +1,5 @@
 -- The words of annotations that begin an expression, with the rules of what they begin.
-use Rattle.std.specs.Prelude.{ℕ}
+use Rattle.std.specs.Prelude.{ℕ, Bool, true, false}
 use Rattle.ebnf.specs.Rules.{below, nothing, form}
 use Rattle.c_syntax.specs.declared.token.Span.{Span}
 use Rattle.c_syntax.specs.declared.token.SpecWord.TheVariants as w
@@ -85,3 +85,23 @@ paired x = form (word (pair_class x) ▷ g.two g.spec_exp (at_level (second_tier
 
 abbrev pub quantified : Quantifier → R Exp
 quantified q = g.quantified (quantifier_class q) q
+
+-- the rule of what a form's word begins
+abbrev pub rule_of : Form → R Exp
+rule_of (f.Constant x) = constant x
+rule_of (f.Function x) = apply x
+rule_of f.Mine = mine
+rule_of (f.Pair x) = paired x
+rule_of (f.Quantifier x) = quantified x
+
+-- how high what stands in a form is at least
+abbrev pub form_low : Form → ℕ
+form_low (f.Constant x) = 0
+form_low (f.Function x) = 1
+form_low f.Mine = 1
+form_low (f.Pair x) = 1
+form_low (f.Quantifier x) = 1
+
+abbrev pub is_quantifier : Form → Bool
+is_quantifier (f.Quantifier x) = true
+is_quantifier _ = false

@@ -15,15 +15,15 @@ ghost use Rattle.expr_reader.specs.Reading.{Gives, lexemes, part, rule_at, exten
 
 use crate::arrows::{arrows, climb};
 use crate::forms::{
-    Form, Pair, argument_tier, form_at, joined, mine_of, second_tier, word_of_function, word_of_pair,
-    word_of_quantifier,
+    Form, Pair, argument_tier, form_at, joined, least, mine_of, second_tier, set_form_at,
+    word_of_function, word_of_pair, word_of_quantifier,
 };
 use crate::leaves::{constant, named, null, number};
-use crate::levels::{Mode, Tier, below, is_link, operator_at, right, top};
+use crate::levels::{Mode, Tier, below, is_link, is_prefix, operator_at, right, top};
 use crate::memory::{add, boxed, single};
 use crate::reading::{Parsed, ReadFault, Reading, fits};
 use crate::tokens::{
-    next_is, next_is_key, next_is_name, next_is_number, take, take_name, take_operator, take_spec, take_unary,
+    next_is, next_is_key, next_is_name, next_is_number, next_is_spec, take, take_name, take_operator, take_spec, take_unary,
 };
 use crate::types::gtype;
 use c_syntax::expressions::Expr;
@@ -64,13 +64,11 @@ fn on_level<'a>(
     ensures gives { Gives exp result (rule_at room (g.rule (level mode tier)) (lexemes tokens.now)) }
     ensures low { IfOk result (λ x. x.height ≤ room + 1) }
 {
-    match tier {
-        Tier::Prefix => prefix(alloc, mode, room, tokens),
-        _ => {
-            let left = on_level(alloc, mode, below(tier), room, tokens)?;
-            links(alloc, mode, tier, room, left)
-        }
+    if is_prefix(tier) {
+        return prefix(alloc, mode, room, tokens);
     }
+    let left = on_level(alloc, mode, below(tier), room, tokens)?;
+    links(alloc, mode, tier, room, left)
 }
 
 /// Goes on with the operators of this level. Each adds a level of height, so there are no more of them than there is room.
@@ -115,12 +113,12 @@ fn one_link<'a>(
     ensures low { IfOk result (λ x. x.height ≤ room + 1) }
 {
     fits(left.height.max(1), room, left.rest)?;
+    if next_is_spec(SpecWord::In, left.rest) {
+        fits(2, room, left.rest)?;
+        return membership(alloc, room, left);
+    }
     match operator_at(mode, tier, left.rest) {
         None => conditional(alloc, mode, room, left),
-        Some(BinaryOperator::In) => {
-            fits(2, room, left.rest)?;
-            membership(alloc, room, left)
-        }
         Some(operator) => binary(alloc, mode, operator, room, left),
     }
 }
@@ -243,7 +241,7 @@ fn unary<'a>(
 
 /// An expression that no operator stands in, but in brackets.
 #[cycle(expressions)]
-fn primary<'a>(alloc: Global, mode: Mode, room: u32, tokens: &'a [Token<'a>]) -> Reading<'a, Expr>
+pub fn primary<'a>(alloc: Global, mode: Mode, room: u32, tokens: &'a [Token<'a>]) -> Reading<'a, Expr>
     requires room { room < 1000 }
     ensures gives { Gives exp result (rule_at room (g.primary (mode_of mode)) (lexemes tokens.now)) }
     ensures low { IfOk result (λ x. x.height ≤ room + 1) }
@@ -262,7 +260,7 @@ fn primary<'a>(alloc: Global, mode: Mode, room: u32, tokens: &'a [Token<'a>]) ->
 
 /// A number, `NULL` or an expression in brackets.
 #[cycle(expressions)]
-fn unnamed<'a>(alloc: Global, mode: Mode, room: u32, tokens: &'a [Token<'a>]) -> Reading<'a, Expr>
+pub fn unnamed<'a>(alloc: Global, mode: Mode, room: u32, tokens: &'a [Token<'a>]) -> Reading<'a, Expr>
     requires room { room < 1000 }
     ensures gives { Gives exp result (rule_at room (g.unnamed (mode_of mode)) (lexemes tokens.now)) }
     ensures low { IfOk result (λ x. x.height ≤ room + 1) }
@@ -307,30 +305,30 @@ fn formed<'a>(alloc: Global, form: Form, room: u32, tokens: &'a [Token<'a>]) -> 
     ensures gives { Gives exp result (rule_at room (g.primary g.InSpec) (lexemes tokens.now)) }
     ensures low { IfOk result (λ x. x.height ≤ room + 1) }
 {
+    fits(least(form), room, tokens)?;
+    worded(alloc, form, room, tokens)
+}
+
+/// What a form's word begins.
+#[cycle(expressions)]
+fn worded<'a>(alloc: Global, form: Form, room: u32, tokens: &'a [Token<'a>]) -> Reading<'a, Expr>
+    requires room { room < 1000 }
+    requires fits { forms.form_low form ≤ room }
+    ensures gives { Gives exp result (rule_at room (forms.rule_of form) (lexemes tokens.now)) }
+    ensures low { IfOk result (λ x. x.height ≤ room + 1) }
+{
     match form {
         Form::Constant(value) => constant(value, tokens),
-        Form::Function(function) => {
-            fits(1, room, tokens)?;
-            apply(alloc, function, room, tokens)
-        }
-        Form::Mine => {
-            fits(1, room, tokens)?;
-            mine(alloc, room, tokens)
-        }
-        Form::Pair(pair) => {
-            fits(1, room, tokens)?;
-            paired(alloc, pair, room, tokens)
-        }
-        Form::Quantifier(quantifier) => {
-            fits(1, room, tokens)?;
-            quantified(alloc, quantifier, room, tokens)
-        }
+        Form::Function(function) => apply(alloc, function, room, tokens),
+        Form::Mine => mine(alloc, room, tokens),
+        Form::Pair(pair) => paired(alloc, pair, room, tokens),
+        Form::Quantifier(quantifier) => quantified(alloc, quantifier, room, tokens),
     }
 }
 
 /// A word of one argument.
 #[cycle(expressions)]
-#[tactic(auto, using(crate::proofs::Primaries::argument), unfolding(ebnf::specs::Reading::read, ebnf::specs::Reading::read_rule))]
+#[tactic(auto, unfolding(ebnf::specs::Reading::read, ebnf::specs::Reading::read_rule))]
 fn apply<'a>(
     alloc: Global,
     function: SpecFunction,
@@ -407,6 +405,7 @@ fn quantified<'a>(
     tokens: &'a [Token<'a>],
 ) -> Reading<'a, Expr>
     requires room { room < 1000 }
+    requires fits { 0 < room }
     ensures gives { Gives exp result (rule_at room (forms.quantified quantifier) (lexemes tokens.now)) }
     ensures low { IfOk result (λ x. x.height ≤ room + 1) }
 {
@@ -452,6 +451,7 @@ pub fn list<'a>(
 
 /// A comma, and one more expression.
 #[cycle(expressions)]
+#[tactic(auto, using(crate::proofs::Vectors::pushed), unfolding(ebnf::specs::Reading::read, ebnf::specs::Sets::low))]
 fn one_more<'a>(
     alloc: Global,
     mode: Mode,
@@ -513,8 +513,8 @@ fn set_primary<'a>(alloc: Global, room: u32, tokens: &'a [Token<'a>]) -> Reading
     if next_is_name(tokens) {
         return named(alloc, tokens);
     }
-    match form_at(tokens) {
-        None | Some(Form::Quantifier(_)) => unnamed(alloc, Mode::Spec, room, tokens),
+    match set_form_at(tokens) {
+        None => unnamed(alloc, Mode::Spec, room, tokens),
         Some(form) => formed(alloc, form, room, tokens),
     }
 }

@@ -1,6 +1,7 @@
 //! The words of annotations that begin an expression.
 
-ghost use Rattle.std.specs.Prelude.{◌≡◌, ◌≢◌, MatchOption};
+ghost use Rattle.std.specs.Prelude.{◌≡◌, ◌≢◌, false, MatchOption, IfSome, IfNone};
+ghost use Rattle.ebnf.specs.Sets.{has, first_rule};
 ghost use Rattle.ebnf.specs.Derives.{next};
 ghost use Rattle.c_syntax.specs.Classes as classes;
 ghost use Rattle.c_syntax.specs.Expressions as e;
@@ -77,6 +78,40 @@ pub fn form_at<'a>(tokens: &'a [Token<'a>]) -> Option<Form>
     match tokens.first() {
         Some(first) => of_token(first),
         None => None,
+    }
+}
+
+/// Whether it is a quantifier.
+fn is_quantifier(form: Form) -> bool
+    ensures { result ≡ forms.is_quantifier form }
+{
+    match form {
+        Form::Quantifier(_) => true,
+        _ => false,
+    }
+}
+
+/// The form that the next token begins, if an owned set may begin with it.
+pub fn set_form_at<'a>(tokens: &'a [Token<'a>]) -> Option<Form>
+    ensures some { IfSome result (λ f. (next language (lexemes tokens.now) ≡ forms.class_of f) × (forms.is_quantifier f ≡ false)) }
+    ensures none { IfNone result (has (first_rule language g.spec_word) (next language (lexemes tokens.now)) ≡ false) }
+{
+    let Some(form) = form_at(tokens) else {
+        return None;
+    };
+    if is_quantifier(form) {
+        return None;
+    }
+    Some(form)
+}
+
+/// How high what stands in a form is at least.
+pub fn least(form: Form) -> u32
+    ensures { result ≡ forms.form_low form }
+{
+    match form {
+        Form::Constant(_) => 0,
+        _ => 1,
     }
 }
 

@@ -48,6 +48,16 @@ pub fn top(mode: Mode) -> Tier
     }
 }
 
+/// Whether it is the level of the operators that bind tightest.
+pub fn is_prefix(tier: Tier) -> bool
+    ensures { result ≡ (number (tier_of tier) == 0) }
+{
+    match tier {
+        Tier::Prefix => true,
+        _ => false,
+    }
+}
+
 /// The level of the left operand.
 pub fn below(tier: Tier) -> Tier
     ensures { tier_of result ≡ levels.below (tier_of tier) }

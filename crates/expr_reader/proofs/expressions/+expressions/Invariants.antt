@@ -45,6 +45,9 @@ decreases-group l = 64 * l.room + 4
 abbrev pub decreases-formed : goal.decreases-formed
 decreases-formed l = 64 * l.room + 20
 
+abbrev pub decreases-worded : goal.decreases-worded
+decreases-worded l = 64 * l.room + 15
+
 abbrev pub decreases-apply : goal.decreases-apply
 decreases-apply l = 64 * l.room + 4
 
