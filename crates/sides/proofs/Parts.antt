@@ -1,0 +1,28 @@
+-- Parts of the grammar, read one by one.
+use Rattle.std.proofs.Common.{◌≡◌, ℕ, suc, max, List, Result, Ok, Err, refl, ap, sym, ◌∙◌, arith}
+use Rattle.ebnf.specs.Rules.{below, row, token, nothing, form}
+use Rattle.ebnf.specs.Reading.{Out, on, read, read_rule, reads}
+use Rattle.c_syntax.specs.Lexing.{Lexeme}
+use Rattle.c_syntax.specs.Language.{language}
+use Rattle.c_syntax.specs.Grammar as g
+use Rattle.c_syntax.specs.Grammar.{P, V, N}
+use Rattle.expr_reader.specs.Reading.{part, rule_at, one_token}
+
+module _ {A : Type 0} (room : ℕ) where
+  pub row_read : {B : Type 0} (p : P B) (q : P (B → A)) (ts : List Lexeme) → part room (row p q) ts ≡ on language (part room p ts) (λ b i mid. on language (part room q mid) (λ f j rest. Ok (f b, max i j, rest)))
+  unfolding read
+  row_read p q ts = refl
+
+  pub token_read : (class high : ℕ) (f : Lexeme → A) (ts : List Lexeme) → part room (token class high f) ts ≡ one_token class high f ts
+  unfolding read
+  token_read class high f ts = refl
+
+  pub nothing_read : (v : A) (ts : List Lexeme) → part room (nothing v) ts ≡ Ok (v, 0, ts)
+  unfolding read
+  nothing_read v ts = refl
+
+  pub below_read : (n : N) (f : V n → A) (ts : List Lexeme) → part room (below n f) ts ≡ on language (reads language room n ts) (λ b i rest. Ok (f b, i, rest))
+  unfolding read
+  below_read n f ts = refl
+
+pub ruleset parts = (row_read, token_read, nothing_read, below_read)

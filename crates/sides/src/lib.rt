@@ -1,0 +1,5 @@
+//! What stands left and right of `=`, and in calls.
+#![tactic(auto)]
+
+pub mod places;
+pub mod allocations;
