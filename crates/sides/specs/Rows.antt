@@ -11,5 +11,5 @@ use Rattle.c_syntax.specs.Grammar.{P, ◌▷◌, word, name}
 use Rattle.c_syntax.specs.Views.{id}
 
 -- the name in the brackets behind `sizeof`, and the brackets' ends
-abbrev pub struct_inside : P (Span → Span → Span → Id)
-struct_inside = word (key k.Struct) ▷ name ▷ word (sign s.Close) ▷ word (sign s.Close) ▷ nothing (λ d c x st b z a. x)
+abbrev pub struct_inside : P (Span → Span → Span → Span → Id)
+struct_inside = word (key k.Struct) ▷ name ▷ word (sign s.Close) ▷ word (sign s.Close) ▷ nothing (λ d c x st b z a m. x)

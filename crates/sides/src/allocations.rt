@@ -17,7 +17,7 @@ use std::alloc::Global;
 /// `struct`, a name and two closing brackets.
 #[tactic(auto, unfolding(ebnf::specs::Reading::read))]
 fn struct_inside<'a>(alloc: Global, tokens: &'a [Token<'a>]) -> Reading<'a, Identifier>
-    ensures gives { Gives (λ x b z a. id x) result (part 0 rows.struct_inside (lexemes tokens.now)) }
+    ensures gives { Gives (λ x b z a m. id x) result (part 0 rows.struct_inside (lexemes tokens.now)) }
     ensures high { IfOk result (λ x. x.height ≡ 1) }
 {
     let word = take_key(Keyword::Struct, tokens)?;
