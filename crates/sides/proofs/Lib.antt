@@ -1,2 +1,4 @@
 pub mod Chained
 pub mod Parts
+pub mod Listed
+pub mod Repeats

@@ -29,3 +29,5 @@ module _ {A B : Type 0} (room : ℕ) (p : P B) (q : P (B → A)) where
   -- one part and then the other, where they are as high together
   pub row_ok : (ts : List Lexeme) (b : B) (i : ℕ) (mid : List Lexeme) (f : B → A) (j : ℕ) (rest : List Lexeme) (a : A) (h : ℕ) → part room p ts ≡ Ok (b, i, mid) → part room q mid ≡ Ok (f, j, rest) → f b ≡ a → max i j ≡ h → part room (row p q) ts ≡ Ok (a, h, rest)
   row_ok ts b i mid f j rest a h d e x y = row_read room p q ts ∙ ap (λ o. on language o (λ b i mid. on language (part room q mid) (λ f j rest. Ok (f b, max i j, rest)))) d ∙ ap (λ o. on language o (λ f j rest. Ok (f b, max i j, rest))) e ∙ ap (λ v. Ok (v, max i j, rest)) x ∙ ap (λ k. Ok (a, k, rest)) y
+
+pub ruleset rows = (row_read, token_read, nothing_read, below_read)
