@@ -3,7 +3,7 @@ use Rattle.std.proofs.Common.{◌≡◌, ℕ, suc, ◌+◌, ◌<◌, ◌≤◌, 
 use Rattle.std.specs.Prelude.{◌==◌, ◌||◌}
 use Rattle.std.proofs.lemmas.List.{length-map}
 use Rattle.ebnf.specs.Rules.{many}
-use Rattle.ebnf.specs.Sets.{has, first, is_empty, is_predictive}
+use Rattle.ebnf.specs.Sets.{has, first, more, is_empty, is_predictive}
 use Rattle.ebnf.specs.Derives.{next}
 use Rattle.ebnf.specs.Reading.{Out, on, read, reads}
 use Rattle.c_syntax.specs.declared.token.Token.{Token}
@@ -15,7 +15,7 @@ use Rattle.expr_reader.specs.Reading.{Gives, lexemes, part, entered, extended, t
 use Rattle.expr_reader.specs.Lists.{repeated}
 use Rattle.c_syntax.specs.declared.token.Sign.TheVariants as s
 use Rattle.c_syntax.specs.Classes.{sign}
-use Rattle.sides.specs.Rows.{ghost_argument}
+use Rattle.sides.specs.Rows.{ghost_argument, further}
 use Rattle.expr_reader.proofs.Takes.{takes}
 use Rattle.expr_reader.proofs.Many as many
 
@@ -70,3 +70,15 @@ fine_ghost = refl
 pub some_ghost : is_empty language ghost_argument ≡ false
 unfolding is_empty
 some_ghost = refl
+
+pub begins_further : (c : ℕ) → has (first language further) c ≡ (c == sign s.Comma)
+unfolding first is_empty
+begins_further c = one_class (sign s.Comma) c
+
+pub fine_further : is_predictive language further ≡ true
+unfolding is_predictive more first is_empty
+fine_further = refl
+
+pub some_further : is_empty language further ≡ false
+unfolding is_empty
+some_further = refl

@@ -4,3 +4,4 @@
 pub mod places;
 pub mod allocations;
 pub mod calls;
+pub mod interlocked;
