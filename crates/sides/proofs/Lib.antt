@@ -2,3 +2,4 @@ pub mod Chained
 pub mod Parts
 pub mod Listed
 pub mod Repeats
+pub mod Compares

@@ -1,6 +1,9 @@
 -- Rows of the grammar, as the reader goes through them.
-use Rattle.std.specs.Prelude.{ℕ, Bool, List, Option, None}
+use Rattle.std.specs.Prelude.{ℕ, suc, max, nat_le, Bool, if◌then◌else◌, List, Option, None, Some, Ok, Err}
 use Rattle.ebnf.specs.Rules.{token, below, nothing, many, form}
+use Rattle.ebnf.specs.Sets.{has, first}
+use Rattle.ebnf.specs.Derives.{next}
+use Rattle.ebnf.specs.Reading.{Out, TooDeep, on}
 use Rattle.c_syntax.specs.declared.token.Span.{Span}
 use Rattle.c_syntax.specs.declared.token.Keyword.{Keyword}
 use Rattle.c_syntax.specs.declared.token.Keyword.TheVariants as k
@@ -8,9 +11,12 @@ use Rattle.c_syntax.specs.declared.token.Sign.{Sign}
 use Rattle.c_syntax.specs.declared.token.Sign.TheVariants as s
 use Rattle.c_syntax.specs.declared.tree.Interlocked.{Interlocked}
 use Rattle.c_syntax.specs.Classes.{key, sign}
+use Rattle.c_syntax.specs.Lexing.{Lexeme}
+use Rattle.c_syntax.specs.Language.{language}
 use Rattle.c_syntax.specs.Expressions.{Id, Exp, Inter, Comparison}
 use Rattle.c_syntax.specs.Grammar as g
 use Rattle.c_syntax.specs.Grammar.{P, R, ◌▷◌, word, name}
+use Rattle.expr_reader.specs.Reading.{part}
 
 -- the name in the brackets behind `sizeof`, and the brackets' ends
 abbrev pub struct_inside : P (Span → Span → Span → Span → Id)
@@ -48,3 +54,9 @@ locked = form (g.locked_word ▷ locked_arguments)
 -- a sign and what the call is compared with
 abbrev pub compared : Sign → Bool → P Comparison
 compared x b = word (sign x) ▷ g.code ▷ nothing (λ y o. record { place = o; is_equal = b; other = y })
+
+-- an Interlocked call so high, and what is read behind it: a comparison at most
+abbrev pub compare : ℕ → Inter → ℕ → List Lexeme → Out language (Inter × Option Comparison)
+compare room x k ts =
+    if has (first language g.comparison) (next language ts) then (if nat_le (max k 1) room then on language (part room g.comparison ts) (λ y i rest. Ok ((x, Some y), suc (max k i), rest)) else Err (TooDeep, ts))
+    else Ok ((x, None), k, ts)

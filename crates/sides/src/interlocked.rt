@@ -1,10 +1,9 @@
 //! Interlocked calls.
 
-ghost use Rattle.std.specs.Prelude.{◌≡◌, ◌≤◌, ◌<◌, ◌+◌, true, false, IfOk};
+ghost use Rattle.std.specs.Prelude.{◌≡◌, ◌≤◌, ◌<◌, ◌+◌, true, IfOk};
 ghost use Rattle.ebnf.specs.Sets.{has, first};
 ghost use Rattle.ebnf.specs.Derives.{next};
 ghost use Rattle.ebnf.specs.Reading.{reads};
-ghost use Rattle.c_syntax.specs.declared.token.Sign.TheVariants as signs;
 ghost use Rattle.c_syntax.specs.Grammar as g;
 ghost use Rattle.c_syntax.specs.Language.{language};
 ghost use Rattle.c_syntax.specs.Views.{inter, exps, comparison as comparison_of};
@@ -161,22 +160,115 @@ fn locked_call<'a>(
     })
 }
 
-/// `==` and what is compared with.
+/// `==` or `!=`, and what is compared with.
 #[tactic(auto, unfolding(ebnf::specs::Reading::read))]
-fn equal_to<'a>(alloc: Global, room: u32, tokens: &'a [Token<'a>]) -> Reading<'a, Compared>
+fn compared_by<'a>(
+    alloc: Global,
+    room: u32,
+    sign: Sign,
+    is_equal: bool,
+    tokens: &'a [Token<'a>],
+) -> Reading<'a, Compared>
     requires room { room < 1000 }
-    ensures gives { Gives comparison_of result (part room (rows.compared signs.Equal true) (lexemes tokens.now)) }
+    ensures gives { Gives comparison_of result (part room (rows.compared sign is_equal) (lexemes tokens.now)) }
     ensures low { IfOk result (λ x. x.height ≤ room) }
 {
-    let sign = take(Sign::Equal, tokens)?;
-    let other = code(alloc, room, sign.rest)?;
+    let found = take(sign, tokens)?;
+    let other = code(alloc, room, found.rest)?;
     Ok(Parsed {
         value: Compared {
-            span: sign.value,
-            is_equal: true,
+            span: found.value,
+            is_equal,
             other: other.value,
         },
         height: other.height,
         rest: other.rest,
     })
+}
+
+/// What an Interlocked call's earlier value is compared with.
+#[tactic(auto, using(crate::proofs::Compares::equal, crate::proofs::Compares::unequal))]
+fn comparison<'a>(alloc: Global, room: u32, tokens: &'a [Token<'a>]) -> Reading<'a, Compared>
+    requires room { room < 1000 }
+    requires enough { 1 ≤ room }
+    requires begins { has (first language g.comparison) (next language (lexemes tokens.now)) ≡ true }
+    ensures gives { Gives comparison_of result (part room g.comparison (lexemes tokens.now)) }
+    ensures low { IfOk result (λ x. x.height ≤ room) }
+{
+    if next_is(Sign::Equal, tokens) {
+        return compared_by(alloc, room, Sign::Equal, true, tokens);
+    }
+    compared_by(alloc, room, Sign::NotEqual, false, tokens)
+}
+
+/// Whether a comparison comes next.
+#[tactic(auto, unfolding(ebnf::specs::Sets::first, ebnf::specs::Sets::is_empty))]
+fn begins_comparison<'a>(tokens: &'a [Token<'a>]) -> bool
+    ensures { result ≡ has (first language g.comparison) (next language (lexemes tokens.now)) }
+{
+    next_is(Sign::Equal, tokens) || next_is(Sign::NotEqual, tokens)
+}
+
+/// An Interlocked call, with what it is compared with.
+pub type LockedCall = (InterlockedCall, Option<Compared>);
+
+/// Goes on with a comparison, if there is one.
+#[tactic(auto, using(crate::proofs::Compares::low_comparison))]
+fn compare<'a>(
+    alloc: Global,
+    room: u32,
+    left: Parsed<'a, InterlockedCall>,
+) -> Reading<'a, LockedCall>
+    requires room { room < 1000 }
+    requires low { left.height ≤ room + 1 }
+    ensures gives { Gives views.locked result (rows.compare room (inter left.entry.value) left.entry.height (lexemes left.entry.rest.now)) }
+    ensures low { IfOk result (λ x. x.height ≤ room + 1) }
+{
+    if !begins_comparison(left.rest) {
+        return Ok(Parsed {
+            value: (left.value, None),
+            height: left.height,
+            rest: left.rest,
+        });
+    }
+    fits(left.height.max(1), room, left.rest)?;
+    let other = comparison(alloc, room, left.rest)?;
+    let height = left.height.max(other.height) + 1;
+    Ok(Parsed {
+        value: (left.value, Some(other.value)),
+        height,
+        rest: other.rest,
+    })
+}
+
+/// An Interlocked call, one level of height down.
+#[tactic(auto, using(crate::proofs::Compares::call_ok, crate::proofs::Compares::call_err))]
+fn interlocked_rule<'a>(
+    alloc: Global,
+    room: u32,
+    tokens: &'a [Token<'a>],
+) -> Reading<'a, LockedCall>
+    requires room { room < 1000 }
+    ensures gives { Gives views.locked result (rule_at room g.interlocked_call (lexemes tokens.now)) }
+    ensures low { IfOk result (λ x. x.height ≤ room + 1) }
+{
+    let call = locked_call(alloc, room, tokens)?;
+    compare(alloc, room, call)
+}
+
+/// An Interlocked call, with what it is compared with.
+#[tactic(auto, unfolding(ebnf::specs::Reading::reads))]
+pub fn interlocked_call<'a>(
+    alloc: Global,
+    room: u32,
+    tokens: &'a [Token<'a>],
+) -> Reading<'a, LockedCall>
+    requires room { room < 1000 }
+    ensures gives { Gives views.locked result (reads language room g.InterlockedCall (lexemes tokens.now)) }
+    ensures low { IfOk result (λ x. x.height ≤ room) }
+{
+    if room == 0 {
+        return Err(ReadFault::TooDeep(tokens));
+    }
+    interlocked_rule(alloc, room - 1, tokens)
 }
