@@ -1,0 +1,5 @@
+pub mod Chained
+pub mod Parts
+pub mod Listed
+pub mod Repeats
+pub mod Compares

@@ -1,0 +1,62 @@
+-- Rows of the grammar, as the reader goes through them.
+use Rattle.std.specs.Prelude.{ℕ, suc, max, nat_le, Bool, if◌then◌else◌, List, Option, None, Some, Ok, Err}
+use Rattle.ebnf.specs.Rules.{token, below, nothing, many, form}
+use Rattle.ebnf.specs.Sets.{has, first}
+use Rattle.ebnf.specs.Derives.{next}
+use Rattle.ebnf.specs.Reading.{Out, TooDeep, on}
+use Rattle.c_syntax.specs.declared.token.Span.{Span}
+use Rattle.c_syntax.specs.declared.token.Keyword.{Keyword}
+use Rattle.c_syntax.specs.declared.token.Keyword.TheVariants as k
+use Rattle.c_syntax.specs.declared.token.Sign.{Sign}
+use Rattle.c_syntax.specs.declared.token.Sign.TheVariants as s
+use Rattle.c_syntax.specs.declared.tree.Interlocked.{Interlocked}
+use Rattle.c_syntax.specs.Classes.{key, sign}
+use Rattle.c_syntax.specs.Lexing.{Lexeme}
+use Rattle.c_syntax.specs.Language.{language}
+use Rattle.c_syntax.specs.Expressions.{Id, Exp, Inter, Comparison}
+use Rattle.c_syntax.specs.Grammar as g
+use Rattle.c_syntax.specs.Grammar.{P, R, ◌▷◌, word, name}
+use Rattle.expr_reader.specs.Reading.{part}
+
+-- the name in the brackets behind `sizeof`, and the brackets' ends
+abbrev pub struct_inside : P (Span → Span → Span → Span → Id)
+struct_inside = word (key k.Struct) ▷ name ▷ word (sign s.Close) ▷ word (sign s.Close) ▷ nothing (λ d c x st b z a m. x)
+
+-- one ghost argument of a call
+abbrev pub ghost_argument : P Exp
+ghost_argument = below g.GhostArgument (λ x. x)
+
+-- ---- Interlocked calls
+
+-- an Interlocked function's word
+abbrev pub locked_by : Keyword → Interlocked → P (Span × Interlocked)
+locked_by x f = token (key x) 0 (λ y. (y.place, f))
+
+-- an Interlocked call, with what it may be compared with
+abbrev pub locked_call : P (Inter × Option Comparison)
+locked_call = below g.InterlockedCall (λ x. x)
+
+-- a comma and an argument
+abbrev pub further : P Exp
+further = word (sign s.Comma) ▷ g.code ▷ nothing (λ x m. x)
+
+abbrev pub all_further : P (List Exp)
+all_further = many further (λ xs. xs)
+
+-- the brackets of an Interlocked call, as what they make of its word
+abbrev pub locked_arguments : P (Span × Interlocked → Inter × Option Comparison)
+locked_arguments = word (sign s.Open) ▷ word (sign s.Ampersand) ▷ below g.AnyPlace (λ x. x) ▷ all_further ▷ word (sign s.Close) ▷ nothing (λ c xs x a o w. (record { place = w.0; function = w.1; field = x; arguments = xs }, None))
+
+-- an Interlocked call that is compared with nothing
+abbrev pub locked : R (Inter × Option Comparison)
+locked = form (g.locked_word ▷ locked_arguments)
+
+-- a sign and what the call is compared with
+abbrev pub compared : Sign → Bool → P Comparison
+compared x b = word (sign x) ▷ g.code ▷ nothing (λ y o. record { place = o; is_equal = b; other = y })
+
+-- an Interlocked call so high, and what is read behind it: a comparison at most
+abbrev pub compare : ℕ → Inter → ℕ → List Lexeme → Out language (Inter × Option Comparison)
+compare room x k ts =
+    if has (first language g.comparison) (next language ts) then (if nat_le (max k 1) room then on language (part room g.comparison ts) (λ y i rest. Ok ((x, Some y), suc (max k i), rest)) else Err (TooDeep, ts))
+    else Ok ((x, None), k, ts)

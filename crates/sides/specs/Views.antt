@@ -1,0 +1,31 @@
+-- What the values that are read stand for.
+use Rattle.std.specs.Prelude.{Option, None}
+use Rattle.std.specs.Option.{option_map}
+use Rattle.std.proofs.Common.{Vec}
+use Rattle.std.specs.declared.alloc.Global.{Global}
+use Rattle.c_syntax.specs.declared.token.Span.{Span}
+use Rattle.c_syntax.specs.declared.tree.Interlocked.{Interlocked}
+use Rattle.c_syntax.specs.declared.expressions.Expr.{Expr}
+use Rattle.c_syntax.specs.declared.expressions.InterlockedCall.{InterlockedCall}
+use Rattle.c_syntax.specs.declared.expressions.Compared.{Compared}
+use Rattle.c_syntax.specs.Grammar as g
+use Rattle.c_syntax.specs.Expressions as e
+use Rattle.c_syntax.specs.Expressions.{Id, CallTree, Inter, Comparison}
+use Rattle.c_syntax.specs.Views.{id, exp, exps, rhs, inter, comparison}
+use Rattle.sides.specs.declared.calls.Arguments.{Arguments}
+
+-- arguments, as what they make of a function's name
+abbrev pub call : Arguments → Id → CallTree
+call x f = record { function = f; arguments = exps x.plain.items; ghost_arguments = exps x.ghosts.items }
+
+-- an Interlocked call's arguments, as what they make of its word
+abbrev pub locked_arguments : Expr × Vec Expr Global → Span × Interlocked → Inter × Option Comparison
+locked_arguments x w = (record { place = w.0; function = w.1; field = exp x.0; arguments = exps x.1.items }, None)
+
+-- an Interlocked call that is compared with nothing
+abbrev pub uncompared : InterlockedCall → Inter × Option Comparison
+uncompared x = (inter x, None)
+
+-- an Interlocked call, with what it may be compared with
+abbrev pub locked : InterlockedCall × Option Compared → Inter × Option Comparison
+locked x = (inter x.0, option_map comparison x.1)
