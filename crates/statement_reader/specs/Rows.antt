@@ -1,0 +1,119 @@
+-- The statements' rows, one by one, as the reader goes through them.
+use Rattle.std.specs.Prelude.{◌⊎◌, ℕ, suc, max, List, [], ◌∷◌, Option, Ok}
+use Rattle.ebnf.specs.Rules.{below, nothing, by_value, by_next, many, form, pick}
+use Rattle.ebnf.specs.Reading.{Out, on}
+use Rattle.c_syntax.specs.declared.token.Span.{Span}
+use Rattle.c_syntax.specs.declared.token.Keyword.TheVariants as k
+use Rattle.c_syntax.specs.declared.token.Sign.TheVariants as s
+use Rattle.c_syntax.specs.Classes.{key, sign}
+use Rattle.c_syntax.specs.Language.{language}
+use Rattle.c_syntax.specs.Expressions.{Exp}
+use Rattle.c_syntax.specs.Statements as st
+use Rattle.c_syntax.specs.Statements.{Inv, Stm}
+use Rattle.c_syntax.specs.Grammar as g
+use Rattle.c_syntax.specs.Grammar.{P, R, ◌▷◌, word, name, inside, code, optional, ctype, stms_of, leaf, loop_body, first_value, else_part, if_of, is_name, call_statement, assign_statement, ghost_arguments, list_or_none, whole_spec}
+use Rattle.statement_reader.specs.declared.kinds.Kind.{Kind}
+use Rattle.statement_reader.specs.declared.kinds.Kind.TheVariants as kinds
+
+-- as many statements as there are
+abbrev pub statements : P (List Stm)
+statements = many (below g.Statement (λ x. x)) (λ xs. xs)
+
+-- a left side that is a name, and what stands behind it
+abbrev pub behind_name : P (Exp → Stm)
+behind_name = by_next call_statement assign_statement
+
+abbrev pub spawn_arguments : P (List Exp × List Exp)
+spawn_arguments = by_next (word (sign s.Comma) ▷ list_or_none code ▷ ghost_arguments ▷ nothing (λ gs xs c. (xs, gs))) (nothing ([], []))
+
+-- The statements that don't begin with `_(`, each as wrap makes of it.
+module _ {A : Type 0} (wrap : Stm → A) where
+  abbrev pub block : R A
+  block = form (word (sign s.BraceOpen) ▷ statements ▷ word (sign s.BraceClose) ▷ nothing (λ c xs o. wrap (st.Block o (stms_of xs) c)))
+
+  abbrev pub skip : R A
+  skip = leaf (sign s.Semicolon) (λ x. wrap (st.Skip x.place))
+
+  abbrev pub declaration : R A
+  declaration = form (ctype ▷ name ▷ optional first_value ▷ word (sign s.Semicolon) ▷ nothing (λ c x n ty. wrap (st.Declare ty.0 ty.1 n x)))
+
+  abbrev pub named : R A
+  named = form (by_value (below g.NamePlace (λ x. x)) is_name behind_name assign_statement ▷ nothing wrap)
+
+  abbrev pub other : R A
+  other = form (below g.OtherPlace (λ x. x) ▷ assign_statement ▷ nothing (λ f l. wrap (f l)))
+
+  abbrev pub branch : R A
+  branch = form (word (key k.If) ▷ inside code ▷ below g.Statement (λ x. x) ▷ optional else_part ▷ nothing (λ b a x p. wrap (if_of p x a b)))
+
+  abbrev pub while_loop : R A
+  while_loop = form (word (key k.While) ▷ inside code ▷ loop_body ▷ nothing (λ b x p. wrap (st.While p x b.0 b.1)))
+
+  abbrev pub do_loop : R A
+  do_loop = form (word (key k.Do) ▷ loop_body ▷ word (key k.While) ▷ inside code ▷ word (sign s.Semicolon) ▷ nothing (λ c x q b p. wrap (st.Do p b.0 b.1 q x)))
+
+  abbrev pub for_loop : R A
+  for_loop = form (word (key k.For) ▷ word (sign s.Open) ▷ optional (below g.Assigned (λ x. x)) ▷ word (sign s.Semicolon) ▷ code ▷ word (sign s.Semicolon) ▷ optional (below g.Assigned (λ x. x)) ▷ word (sign s.Close) ▷ loop_body
+      ▷ nothing (λ b c z m y n x o p. wrap (st.For p x y z b.0 b.1)))
+
+  abbrev pub return_ : R A
+  return_ = form (word (key k.Return) ▷ optional code ▷ word (sign s.Semicolon) ▷ nothing (λ c x p. wrap (st.Return p x)))
+
+  abbrev pub spawn : R A
+  spawn = form (word (key k.VccSpawn) ▷ word (sign s.Open) ▷ name ▷ spawn_arguments ▷ word (sign s.Close) ▷ word (sign s.Semicolon) ▷ nothing (λ z c xs f o p. wrap (st.Spawn p (record { function = f; arguments = xs.0; ghost_arguments = xs.1 }))))
+
+  abbrev pub free : R A
+  free = form (word (key k.Free) ▷ inside code ▷ word (sign s.Semicolon) ▷ nothing (λ c x p. wrap (st.Free p x)))
+
+  -- the rule of a kind of statement
+  abbrev pub rule_of : Kind → R A
+  rule_of kinds.Block = block
+  rule_of kinds.Skip = skip
+  rule_of kinds.Declaration = declaration
+  rule_of kinds.Named = named
+  rule_of kinds.Other = other
+  rule_of kinds.Branch = branch
+  rule_of kinds.While = while_loop
+  rule_of kinds.Do = do_loop
+  rule_of kinds.For = for_loop
+  rule_of kinds.Return = return_
+  rule_of kinds.Spawn = spawn
+  rule_of kinds.Free = free
+
+  -- the rule as the grammar has it
+  abbrev pub all : R A
+  all = pick block (pick skip (pick declaration (pick named (pick other (pick branch (pick (pick while_loop (pick do_loop for_loop)) (pick return_ (pick spawn free))))))))
+
+-- how high what stands in a statement is at least
+abbrev pub kind_low : Kind → ℕ
+kind_low kinds.Block = 0
+kind_low kinds.Skip = 0
+kind_low kinds.Declaration = 1
+kind_low kinds.Named = 1
+kind_low kinds.Other = 2
+kind_low kinds.Branch = 1
+kind_low kinds.While = 1
+kind_low kinds.Do = 1
+kind_low kinds.For = 1
+kind_low kinds.Return = 0
+kind_low kinds.Spawn = 1
+kind_low kinds.Free = 1
+
+-- the classes that a kind of statement begins with
+abbrev pub kind_begins : Kind → List ℕ
+kind_begins kinds.Block = sign s.BraceOpen ∷ []
+kind_begins kinds.Skip = sign s.Semicolon ∷ []
+kind_begins kinds.Declaration = key k.Int ∷ key k.Long ∷ key k.Unsigned ∷ key k.Struct ∷ []
+kind_begins kinds.Named = 1 ∷ []
+kind_begins kinds.Other = 2 ∷ key k.Null ∷ sign s.Open ∷ []
+kind_begins kinds.Branch = key k.If ∷ []
+kind_begins kinds.While = key k.While ∷ []
+kind_begins kinds.Do = key k.Do ∷ []
+kind_begins kinds.For = key k.For ∷ []
+kind_begins kinds.Return = key k.Return ∷ []
+kind_begins kinds.Spawn = key k.VccSpawn ∷ []
+kind_begins kinds.Free = key k.Free ∷ []
+
+-- what is read as a function of a place, at that place
+abbrev pub at_span : {A : Type 0} → Span → Out language (Span → A) → Out language A
+at_span p out = on language out (λ f i rest. Ok (f p, i, rest))

@@ -1,0 +1,7 @@
+//! The reader of statements.
+#![tactic(auto)]
+
+pub mod blocks;
+pub mod kinds;
+pub mod simple;
+pub mod sides_stub;
