@@ -1,3 +1,3 @@
-pub mod Rows
 pub mod Views
 pub mod Stub
+pub mod Rows

@@ -12,8 +12,12 @@ use Rattle.c_syntax.specs.Statements as st
 use Rattle.c_syntax.specs.Statements.{Inv, Stm}
 use Rattle.c_syntax.specs.Grammar as g
 use Rattle.c_syntax.specs.Grammar.{P, R, ◌▷◌, word, name, inside, code, optional, ctype, stms_of, leaf, loop_body, first_value, else_part, if_of, is_name, call_statement, assign_statement, ghost_arguments, list_or_none, whole_spec}
+use Rattle.statement_reader.specs.declared.sides_stub.Behind.{Behind}
+use Rattle.statement_reader.specs.Stub.{behind}
 use Rattle.statement_reader.specs.declared.kinds.Kind.{Kind}
 use Rattle.statement_reader.specs.declared.kinds.Kind.TheVariants as kinds
+use Rattle.statement_reader.specs.declared.kinds.Annotation.{Annotation}
+use Rattle.statement_reader.specs.declared.kinds.Annotation.TheVariants as forms
 
 -- as many statements as there are
 abbrev pub statements : P (List Stm)
@@ -117,3 +121,51 @@ kind_begins kinds.Free = key k.Free ∷ []
 -- what is read as a function of a place, at that place
 abbrev pub at_span : {A : Type 0} → Span → Out language (Span → A) → Out language A
 at_span p out = on language out (λ f i rest. Ok (f p, i, rest))
+
+-- what stands behind a left operand, as a statement of it
+abbrev pub behind_left : Exp → ℕ → Out language (Exp → Stm) → Out language Stm
+behind_left l k out = on language out (λ f j rest. Ok (f l, suc (max k j), rest))
+
+-- a value as a statement, one level of height above
+abbrev pub higher : Out language Stm → Out language Stm
+higher out = on language out (λ a i rest. Ok (a, suc i, rest))
+
+-- ---- what stands behind `_(`
+
+abbrev pub assert_ : P (Span → Stm)
+assert_ = word (key k.Assert) ▷ whole_spec ▷ word (sign s.Close) ▷ nothing (λ c x q p. st.Assert p x)
+
+abbrev pub ghost : P (Span → Stm)
+ghost = word (key k.Ghost) ▷ below g.GhostBody (λ x. x) ▷ word (sign s.Close) ▷ nothing (λ c x q p. st.Ghost p x)
+
+abbrev pub wrap_ : P (Span → Stm)
+wrap_ = word (key k.Wrap) ▷ code ▷ word (sign s.Close) ▷ nothing (λ c x q p. st.Wrap p x)
+
+abbrev pub unwrap : P (Span → Stm)
+unwrap = word (key k.Unwrap) ▷ code ▷ word (sign s.Close) ▷ nothing (λ c x q p. st.Unwrap p x)
+
+abbrev pub unwrapping : P (Span → Stm)
+unwrapping = word (key k.Unwrapping) ▷ code ▷ word (sign s.Close) ▷ below g.BlockOf (λ x. x) ▷ nothing (λ b c x q p. st.Unwrapping p x b.all b.end)
+
+abbrev pub atomic : P (Span → Stm)
+atomic = word (key k.Atomic) ▷ g.list code ▷ word (sign s.Close) ▷ below g.BlockOf (λ x. x) ▷ nothing (λ b c xs q p. st.Atomic p xs b.all b.end)
+
+abbrev pub annotation_of : Annotation → P (Span → Stm)
+annotation_of forms.Assert = assert_
+annotation_of forms.Ghost = ghost
+annotation_of forms.Wrap = wrap_
+annotation_of forms.Unwrap = unwrap
+annotation_of forms.Unwrapping = unwrapping
+annotation_of forms.Atomic = atomic
+
+abbrev pub annotation_class : Annotation → ℕ
+annotation_class forms.Assert = key k.Assert
+annotation_class forms.Ghost = key k.Ghost
+annotation_class forms.Wrap = key k.Wrap
+annotation_class forms.Unwrap = key k.Unwrap
+annotation_class forms.Unwrapping = key k.Unwrapping
+annotation_class forms.Atomic = key k.Atomic
+
+-- what stands behind a left side, as a statement of it
+abbrev pub assigned : Behind → Exp → Stm
+assigned x l = st.Assign (g.first_place l) (behind x l)

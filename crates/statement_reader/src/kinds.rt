@@ -1,6 +1,6 @@
 //! Kinds of statements.
 
-ghost use Rattle.std.specs.Prelude.{◌≡◌, ◌==◌, true, false, ℕ, MatchOption};
+ghost use Rattle.std.specs.Prelude.{◌≡◌, ◌≢◌, ◌==◌, true, false, ℕ, MatchOption};
 ghost use Rattle.ebnf.specs.Sets.{has};
 ghost use Rattle.ebnf.specs.Derives.{next};
 ghost use Rattle.c_syntax.specs.Classes as classes;
@@ -8,6 +8,7 @@ ghost use Rattle.c_syntax.specs.Lexing.{lexeme};
 ghost use Rattle.c_syntax.specs.Language.{language};
 ghost use Rattle.expr_reader.specs.Reading.{lexemes};
 ghost use Rattle.statement_reader.specs.declared.kinds.Kind.{Kind};
+ghost use Rattle.statement_reader.specs.declared.kinds.Annotation.{Annotation};
 ghost use Rattle.statement_reader.specs.Rows as rows;
 
 use c_syntax::token::{Keyword, Sign, Token, TokenKind};
@@ -94,5 +95,51 @@ pub fn least(kind: Kind) -> u32
         Kind::Block | Kind::Skip | Kind::Return => 0,
         Kind::Other => 2,
         _ => 1,
+    }
+}
+
+/// A form behind `_(` that is a statement.
+#[derive(Clone, Copy, Debug, PartialEq, Eq)]
+pub enum Annotation {
+    Assert,
+    Ghost,
+    Wrap,
+    Unwrap,
+    Unwrapping,
+    Atomic,
+}
+
+/// The form that the keyword begins.
+fn form_of_keyword(keyword: Keyword) -> Option<Annotation>
+    ensures { MatchOption result ((x : Annotation) → classes.key keyword ≢ rows.annotation_class x) (λ x. classes.key keyword ≡ rows.annotation_class x) }
+{
+    match keyword {
+        Keyword::Assert => Some(Annotation::Assert),
+        Keyword::Ghost => Some(Annotation::Ghost),
+        Keyword::Wrap => Some(Annotation::Wrap),
+        Keyword::Unwrap => Some(Annotation::Unwrap),
+        Keyword::Unwrapping => Some(Annotation::Unwrapping),
+        Keyword::Atomic => Some(Annotation::Atomic),
+        _ => None,
+    }
+}
+
+/// The form that the token begins.
+fn form_of_token(token: &Token<'_>) -> Option<Annotation>
+    ensures { MatchOption result ((x : Annotation) → classes.class (lexeme token.now) ≢ rows.annotation_class x) (λ x. classes.class (lexeme token.now) ≡ rows.annotation_class x) }
+{
+    match token.kind {
+        TokenKind::Keyword(keyword) => form_of_keyword(keyword),
+        _ => None,
+    }
+}
+
+/// The form that begins here.
+pub fn annotation_at<'a>(tokens: &'a [Token<'a>]) -> Option<Annotation>
+    ensures { MatchOption result ((x : Annotation) → next language (lexemes tokens.now) ≢ rows.annotation_class x) (λ x. next language (lexemes tokens.now) ≡ rows.annotation_class x) }
+{
+    match tokens.first() {
+        Some(first) => form_of_token(first),
+        None => None,
     }
 }

@@ -6,13 +6,14 @@ ghost use Rattle.ebnf.specs.Reading.{reads};
 ghost use Rattle.c_syntax.specs.Grammar as g;
 ghost use Rattle.c_syntax.specs.Language.{language};
 ghost use Rattle.c_syntax.specs.Views as views;
-ghost use Rattle.c_syntax.specs.Views.{id, exp, stm};
+ghost use Rattle.c_syntax.specs.Views.{id, exp, exps, stm};
+ghost use Rattle.c_syntax.specs.Expressions as e;
 ghost use Rattle.expr_reader.specs.Reading.{Gives, lexemes, part, rule_at};
 ghost use Rattle.statement_reader.specs.Rows as rows;
 ghost use Rattle.statement_reader.specs.Rows.{at_span};
 
-use crate::sides_stub::{assignment_behind, ghost_body, rhs};
-use c_syntax::expressions::{Call, Expr, Identifier, Right};
+use crate::sides_stub::{Behind, assignment_behind, ghost_body, rhs};
+use c_syntax::expressions::{Assignment, Call, Expr, Identifier, Right};
 use c_syntax::statements::{Invariant, Stmt};
 use c_syntax::token::{Keyword, Sign, Span, Token};
 use expr_reader::expressions::expression;
@@ -171,6 +172,180 @@ pub fn free_statement<'a>(alloc: Global, room: u32, tokens: &'a [Token<'a>]) -> 
     Ok(Parsed {
         value: Stmt::Free(word.value, object.value),
         height: object.height + 1,
+        rest: end.rest,
+    })
+}
+
+/// The place of the first token of an expression.
+fn first_place(expression: &Expr) -> Span
+    ensures { result ≡ g.first_place (exp expression.now) }
+{
+    match expression {
+        Expr::Name(name) => name.span,
+        Expr::Field(_, left, _) | Expr::Status(_, left, _, _) | Expr::Owns(_, left, _) => {
+            first_place(left)
+        }
+        Expr::Binary(_, _, left, _) | Expr::Conditional(_, left, _, _) => first_place(left),
+        Expr::Number(span, _, _)
+        | Expr::Null(span)
+        | Expr::Constant(span, _)
+        | Expr::Group(span, _)
+        | Expr::Unary(span, _, _)
+        | Expr::Apply(span, _, _)
+        | Expr::Mine(span, _)
+        | Expr::ClaimsObject(span, _, _)
+        | Expr::Claims(span, _, _)
+        | Expr::Quantified(span, _, _, _, _) => *span,
+    }
+}
+
+/// What stands behind a left side, up to the `;`.
+#[tactic(auto, using(sides::proofs::Parts::rows))]
+fn assign_behind<'a>(alloc: Global, room: u32, tokens: &'a [Token<'a>]) -> Reading<'a, Behind>
+    requires room { room < 1000 }
+    ensures gives { Gives rows.assigned result (part room g.assign_statement (lexemes tokens.now)) }
+    ensures low { IfOk result (λ x. x.height ≤ room) }
+{
+    let behind = assignment_behind(alloc, room, tokens)?;
+    let end = take(Sign::Semicolon, behind.rest)?;
+    Ok(Parsed {
+        value: behind.value,
+        height: behind.height,
+        rest: end.rest,
+    })
+}
+
+/// A left side with what stands behind it.
+fn assignment(left: Expr, behind: Behind) -> Stmt
+    ensures { stm result ≡ rows.assigned behind (exp left) }
+{
+    let span = first_place(&left);
+    Stmt::Assign(
+        span,
+        Assignment {
+            left,
+            span: behind.span,
+            change: behind.change,
+        },
+    )
+}
+
+/// A left side that is read, and what stands behind it.
+fn assign<'a>(alloc: Global, room: u32, left: Parsed<'a, Expr>) -> Reading<'a, Stmt>
+    requires room { room < 1000 }
+    requires low { left.height ≤ room }
+    ensures gives { Gives stm result (rows.behind_left (exp left.entry.value) left.entry.height (part room g.assign_statement (lexemes left.entry.rest.now))) }
+    ensures low { IfOk result (λ x. x.height ≤ room + 1) }
+{
+    let behind = assign_behind(alloc, room, left.rest)?;
+    let height = left.height.max(behind.height) + 1;
+    Ok(Parsed {
+        value: assignment(left.value, behind.value),
+        height,
+        rest: behind.rest,
+    })
+}
+
+/// A call behind its name.
+#[tactic(auto, using(sides::proofs::Parts::rows))]
+fn call<'a>(
+    alloc: Global,
+    room: u32,
+    name: Identifier,
+    height: u32,
+    tokens: &'a [Token<'a>],
+) -> Reading<'a, Stmt>
+    requires room { room < 1000 }
+    requires low { height ≤ room }
+    ensures gives { Gives stm result (rows.behind_left (e.Name (id name)) height (part room g.call_statement (lexemes tokens.now))) }
+    ensures low { IfOk result (λ x. x.height ≤ room + 1) }
+{
+    let behind = call_behind(alloc, room, tokens)?;
+    let end = take(Sign::Semicolon, behind.rest)?;
+    let span = name.span;
+    Ok(Parsed {
+        value: Stmt::Call(
+            span,
+            Call {
+                function: name,
+                arguments: behind.value.plain,
+                ghost_arguments: behind.value.ghosts,
+            },
+        ),
+        height: height.max(behind.height) + 1,
+        rest: end.rest,
+    })
+}
+
+/// A statement that begins with a left side that begins otherwise than with a name.
+#[tactic(auto, unfolding(ebnf::specs::Reading::read_rule), using(sides::proofs::Parts::rows))]
+pub fn other<'a>(alloc: Global, room: u32, tokens: &'a [Token<'a>]) -> Reading<'a, Stmt>
+    requires room { room < 1000 }
+    ensures gives { Gives stm result (rule_at room (rows.other (λ x. x)) (lexemes tokens.now)) }
+    ensures low { IfOk result (λ x. x.height ≤ room + 1) }
+{
+    let left = other_place(alloc, room, tokens)?;
+    assign(alloc, room, left)
+}
+
+/// The arguments behind a spawned function's name.
+#[tactic(auto, using(sides::proofs::Parts::rows, crate::proofs::Spawns::some_arguments, crate::proofs::Spawns::no_arguments))]
+fn spawn_arguments<'a>(
+    alloc: Global,
+    room: u32,
+    tokens: &'a [Token<'a>],
+) -> Reading<'a, Arguments>
+    requires room { room < 1000 }
+    ensures gives { Gives (λ x. (exps x.plain.items, exps x.ghosts.items)) result (part room rows.spawn_arguments (lexemes tokens.now)) }
+    ensures low { IfOk result (λ x. x.height ≤ room) }
+{
+    if !next_is(Sign::Comma, tokens) {
+        return Ok(Parsed {
+            value: Arguments {
+                plain: Vec::new(alloc),
+                ghosts: Vec::new(alloc),
+            },
+            height: 0,
+            rest: tokens,
+        });
+    }
+    let comma = take(Sign::Comma, tokens)?;
+    let plain = list_or_none(alloc, room, comma.rest)?;
+    let ghosts = ghost_arguments(alloc, room, plain.rest)?;
+    Ok(Parsed {
+        value: Arguments {
+            plain: plain.value,
+            ghosts: ghosts.value,
+        },
+        height: plain.height.max(ghosts.height),
+        rest: ghosts.rest,
+    })
+}
+
+/// `vcc_spawn`
+#[tactic(auto, unfolding(ebnf::specs::Reading::read_rule), using(sides::proofs::Parts::rows))]
+pub fn spawn<'a>(alloc: Global, room: u32, tokens: &'a [Token<'a>]) -> Reading<'a, Stmt>
+    requires room { room < 1000 }
+    requires fits { 0 < room }
+    ensures gives { Gives stm result (rule_at room (rows.spawn (λ x. x)) (lexemes tokens.now)) }
+    ensures low { IfOk result (λ x. x.height ≤ room + 1) }
+{
+    let word = take_key(Keyword::VccSpawn, tokens)?;
+    let open = take(Sign::Open, word.rest)?;
+    let name = take_name(alloc, 1, open.rest)?;
+    let arguments = spawn_arguments(alloc, room, name.rest)?;
+    let close = take(Sign::Close, arguments.rest)?;
+    let end = take(Sign::Semicolon, close.rest)?;
+    Ok(Parsed {
+        value: Stmt::Spawn(
+            word.value,
+            Call {
+                function: name.value,
+                arguments: arguments.value.plain,
+                ghost_arguments: arguments.value.ghosts,
+            },
+        ),
+        height: name.height.max(arguments.height) + 1,
         rest: end.rest,
     })
 }
