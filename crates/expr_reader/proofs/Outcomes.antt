@@ -30,7 +30,7 @@ first_err v w (f.TooDeep rest) out more whole is g = is ∙ ap (λ o. on languag
 first_err v w f.OutOfMemory out more whole is g = tt
 
 -- what is read behind is the rest of the whole
-pub then_gives : {A X : Type 0} (w : X → Exp) (r : Result (Parsed X) ReadFault) (out : Out language A) (a : A) (h : ℕ) (mid : List Lexeme) (more : A → ℕ → List Lexeme → Out language Exp) (whole : Out language Exp) → whole ≡ on language out more → out ≡ Ok (a, h, mid) → Gives w r (more a h mid) → Gives w r whole
+pub then_gives : {A B X : Type 0} (w : X → B) (r : Result (Parsed X) ReadFault) (out : Out language A) (a : A) (h : ℕ) (mid : List Lexeme) (more : A → ℕ → List Lexeme → Out language B) (whole : Out language B) → whole ≡ on language out more → out ≡ Ok (a, h, mid) → Gives w r (more a h mid) → Gives w r whole
 then_gives w r out a h mid more whole is e g = subst (λ o. Gives w r o) (sym (is ∙ ap (λ o. on language o more) e)) g
 
 pub same_gives : {X A : Type 0} (w : X → A) (r : Result (Parsed X) ReadFault) (out whole : Out language A) → whole ≡ out → Gives w r out → Gives w r whole

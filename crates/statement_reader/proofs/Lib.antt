@@ -1,3 +1,4 @@
 pub mod Choices
 pub mod Options
 pub mod Spawns
+pub mod Names

@@ -169,3 +169,7 @@ annotation_class forms.Atomic = key k.Atomic
 -- what stands behind a left side, as a statement of it
 abbrev pub assigned : Behind → Exp → Stm
 assigned x l = st.Assign (g.first_place l) (behind x l)
+
+-- `_(` and a statement's form
+abbrev pub annotation : R Stm
+annotation = form (word (sign s.Annotation) ▷ g.annotated ▷ nothing (λ f p. f p))

@@ -1,6 +1,6 @@
 //! Statements that hold no statement.
 
-ghost use Rattle.std.specs.Prelude.{◌≡◌, ◌==◌, ◌≤◌, ◌<◌, ◌+◌, false, true, IfOk};
+ghost use Rattle.std.specs.Prelude.{◌≡◌, ◌==◌, ◌≤◌, ◌<◌, ◌+◌, false, true, IfOk, IfErr};
 ghost use Rattle.std.specs.Option.{option_map};
 ghost use Rattle.ebnf.specs.Reading.{reads};
 ghost use Rattle.c_syntax.specs.Grammar as g;
@@ -347,5 +347,180 @@ pub fn spawn<'a>(alloc: Global, room: u32, tokens: &'a [Token<'a>]) -> Reading<'
         ),
         height: name.height.max(arguments.height) + 1,
         rest: end.rest,
+    })
+}
+
+/// The name that the expression is, or the expression.
+fn called(left: Expr) -> Result<Identifier, Expr>
+    ensures ok { IfOk result (λ n. exp left ≡ e.Name (id n)) }
+    ensures err { IfErr result (λ x. (exp left ≡ exp x) × (g.is_name (exp x) ≡ false)) }
+{
+    match left {
+        Expr::Name(name) => Ok(name),
+        other => Err(other),
+    }
+}
+
+/// A call or an assignment behind a name.
+#[tactic(auto, using(crate::proofs::Names::call_read, crate::proofs::Names::assign_read))]
+fn behind_name<'a>(
+    alloc: Global,
+    room: u32,
+    name: Identifier,
+    height: u32,
+    tokens: &'a [Token<'a>],
+) -> Reading<'a, Stmt>
+    requires room { room < 1000 }
+    requires low { height ≤ room }
+    ensures gives { Gives stm result (rows.behind_left (e.Name (id name)) height (part room rows.behind_name (lexemes tokens.now))) }
+    ensures low { IfOk result (λ x. x.height ≤ room + 1) }
+{
+    if next_is(Sign::Open, tokens) {
+        return call(alloc, room, name, height, tokens);
+    }
+    assign(
+        alloc,
+        room,
+        Parsed {
+            value: Expr::Name(name),
+            height,
+            rest: tokens,
+        },
+    )
+}
+
+/// A statement that begins with a name.
+pub fn named<'a>(alloc: Global, room: u32, tokens: &'a [Token<'a>]) -> Reading<'a, Stmt>
+    requires room { room < 1000 }
+    ensures gives { Gives stm result (rule_at room (rows.named (λ x. x)) (lexemes tokens.now)) }
+    ensures low { IfOk result (λ x. x.height ≤ room + 1) }
+{
+    let place = name_place(alloc, room, tokens)?;
+    let height = place.height;
+    let rest = place.rest;
+    match called(place.value) {
+        Ok(name) => behind_name(alloc, room, name, height, rest),
+        Err(value) => assign(
+            alloc,
+            room,
+            Parsed {
+                value,
+                height,
+                rest,
+            },
+        ),
+    }
+}
+
+/// `_(assert ..)` behind the `_(`, whose place is this.
+#[tactic(auto, using(sides::proofs::Parts::rows))]
+pub fn assertion<'a>(
+    alloc: Global,
+    span: Span,
+    room: u32,
+    tokens: &'a [Token<'a>],
+) -> Reading<'a, Stmt>
+    requires room { room < 1000 }
+    ensures gives { Gives stm result (at_span span (part room rows.assert_ (lexemes tokens.now))) }
+    ensures low { IfOk result (λ x. x.height ≤ room) }
+{
+    let word = take_key(Keyword::Assert, tokens)?;
+    let property = expression(alloc, Mode::Spec, Tier::Equivalence, room, word.rest)?;
+    let close = take(Sign::Close, property.rest)?;
+    Ok(Parsed {
+        value: Stmt::Assert(span, property.value),
+        height: property.height,
+        rest: close.rest,
+    })
+}
+
+/// `_(ghost ..)` behind the `_(`.
+#[tactic(auto, using(sides::proofs::Parts::rows))]
+pub fn ghost_statement<'a>(
+    alloc: Global,
+    span: Span,
+    room: u32,
+    tokens: &'a [Token<'a>],
+) -> Reading<'a, Stmt>
+    requires room { room < 1000 }
+    ensures gives { Gives stm result (at_span span (part room rows.ghost (lexemes tokens.now))) }
+    ensures low { IfOk result (λ x. x.height ≤ room) }
+{
+    let word = take_key(Keyword::Ghost, tokens)?;
+    let body = ghost_body(alloc, room, word.rest)?;
+    let close = take(Sign::Close, body.rest)?;
+    Ok(Parsed {
+        value: Stmt::Ghost(span, body.value),
+        height: body.height,
+        rest: close.rest,
+    })
+}
+
+/// `_(wrap ..)` behind the `_(`.
+#[tactic(auto, using(sides::proofs::Parts::rows))]
+pub fn wrap<'a>(
+    alloc: Global,
+    span: Span,
+    room: u32,
+    tokens: &'a [Token<'a>],
+) -> Reading<'a, Stmt>
+    requires room { room < 1000 }
+    ensures gives { Gives stm result (at_span span (part room rows.wrap_ (lexemes tokens.now))) }
+    ensures low { IfOk result (λ x. x.height ≤ room) }
+{
+    let word = take_key(Keyword::Wrap, tokens)?;
+    let object = code(alloc, room, word.rest)?;
+    let close = take(Sign::Close, object.rest)?;
+    Ok(Parsed {
+        value: Stmt::Wrap(span, object.value),
+        height: object.height,
+        rest: close.rest,
+    })
+}
+
+/// `_(unwrap ..)` behind the `_(`.
+#[tactic(auto, using(sides::proofs::Parts::rows))]
+pub fn unwrap_statement<'a>(
+    alloc: Global,
+    span: Span,
+    room: u32,
+    tokens: &'a [Token<'a>],
+) -> Reading<'a, Stmt>
+    requires room { room < 1000 }
+    ensures gives { Gives stm result (at_span span (part room rows.unwrap (lexemes tokens.now))) }
+    ensures low { IfOk result (λ x. x.height ≤ room) }
+{
+    let word = take_key(Keyword::Unwrap, tokens)?;
+    let object = code(alloc, room, word.rest)?;
+    let close = take(Sign::Close, object.rest)?;
+    Ok(Parsed {
+        value: Stmt::Unwrap(span, object.value),
+        height: object.height,
+        rest: close.rest,
+    })
+}
+
+/// `invariant ..` behind the `_(`.
+#[tactic(auto, using(sides::proofs::Parts::rows))]
+pub fn invariant<'a>(
+    alloc: Global,
+    span: Span,
+    room: u32,
+    tokens: &'a [Token<'a>],
+) -> Reading<'a, Invariant>
+    requires room { room < 1000 }
+    ensures gives { Gives views.invariant result (at_span span (part room g.invariant_behind (lexemes tokens.now))) }
+    ensures low { IfOk result (λ x. x.height ≤ room) }
+{
+    let word = take_key(Keyword::Invariant, tokens)?;
+    let property = expression(alloc, Mode::Spec, Tier::Equivalence, room, word.rest)?;
+    let close = take(Sign::Close, property.rest)?;
+    Ok(Parsed {
+        value: Invariant {
+            span,
+            property: property.value,
+        },
+        height: property.height,
+        rest: close.rest,
     })
 }

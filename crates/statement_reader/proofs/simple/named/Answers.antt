@@ -1,0 +1,21 @@
+use Rattle.std.proofs.Common.{◌≡◌, true, false, ap, sym, ◌∙◌}
+use Rattle.std.specs.Prelude.{if◌then◌else◌}
+use Rattle.std.proofs.lemmas.Result.{err_from_is_err_and}
+use Rattle.c_syntax.specs.Views.{exp, stm}
+use Rattle.c_syntax.specs.Grammar as g
+use Rattle.expr_reader.specs.Reading.{lexemes, part}
+use Rattle.expr_reader.proofs.Outcomes.{first_err, then_gives, same_gives}
+use Rattle.statement_reader.specs.Rows.{behind_name, behind_left}
+use Rattle.statement_reader.proofs.Names.{named_read, name_behind, other_behind}
+use Rattle.statement_reader.proofs.simple.named.Goals as goal
+
+pub returns-in_err-place-clause-gives : goal.returns-in_err-place-clause-gives
+returns-in_err-place-clause-gives c =
+    let p = err_from_is_err_and c.from_residual.result c.from_residual.ensures.1 in
+    rw (p.1, p.2) (first_err exp stm _ _ _ _ (named_read c.args.room (lexemes c.args.tokens.now)) c.in_err-place.ensures.gives)
+
+pub returns-in-Ok-clause-gives : goal.returns-in-Ok-clause-gives
+returns-in-Ok-clause-gives c = then_gives stm c.behind_name.result _ _ _ _ _ _ (named_read c.args.room (lexemes c.args.tokens.now)) c.in_ok-place.ensures.gives (same_gives stm c.behind_name.result _ _ (name_behind c.args.room _ _ _ _ c.in-Ok.ensures.ok) c.behind_name.ensures.gives)
+
+pub returns-in-Err-clause-gives : goal.returns-in-Err-clause-gives
+returns-in-Err-clause-gives c = let w = c.in-Err.ensures.err in then_gives stm c.assign.result _ _ _ _ _ _ (named_read c.args.room (lexemes c.args.tokens.now)) c.in_ok-place.ensures.gives (same_gives stm c.assign.result _ _ (other_behind c.args.room _ _ _ _ w.0 w.1) c.assign.ensures.gives)
