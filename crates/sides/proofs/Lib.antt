@@ -3,3 +3,4 @@ pub mod Parts
 pub mod Listed
 pub mod Repeats
 pub mod Compares
+pub mod Begun

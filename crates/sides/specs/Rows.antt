@@ -1,5 +1,5 @@
 -- Rows of the grammar, as the reader goes through them.
-use Rattle.std.specs.Prelude.{ℕ, suc, max, nat_le, Bool, if◌then◌else◌, List, Option, None, Some, Ok, Err}
+use Rattle.std.specs.Prelude.{ℕ, suc, max, nat_le, ◌==◌, Bool, false, ◌&&◌, if◌then◌else◌, List, [], ◌∷◌, Option, None, Some, Ok, Err}
 use Rattle.ebnf.specs.Rules.{token, below, nothing, many, form}
 use Rattle.ebnf.specs.Sets.{has, first}
 use Rattle.ebnf.specs.Derives.{next}
@@ -60,3 +60,17 @@ abbrev pub compare : ℕ → Inter → ℕ → List Lexeme → Out language (Int
 compare room x k ts =
     if has (first language g.comparison) (next language ts) then (if nat_le (max k 1) room then on language (part room g.comparison ts) (λ y i rest. Ok ((x, Some y), suc (max k i), rest)) else Err (TooDeep, ts))
     else Ok ((x, None), k, ts)
+
+-- ---- what a right side begins with
+
+-- `(` and `struct` come next
+abbrev pub begins_cast : List Lexeme → Bool
+begins_cast [] = false
+begins_cast (x ∷ rest) = (language.class x == sign s.Open) && (next language rest == key k.Struct)
+
+-- a cast behind its `(`
+abbrev pub cast_behind : P (Span → g.Begun)
+cast_behind = g.struct_pointer ▷ word (sign s.Close) ▷ nothing (λ c x o. g.Cast x.1)
+
+abbrev pub cast : R g.Begun
+cast = form (word (sign s.Open) ▷ cast_behind ▷ nothing (λ f o. f o))

@@ -12,6 +12,9 @@ use Rattle.c_syntax.specs.Grammar as g
 use Rattle.c_syntax.specs.Expressions as e
 use Rattle.c_syntax.specs.Expressions.{Id, CallTree, Inter, Comparison}
 use Rattle.c_syntax.specs.Views.{id, exp, exps, rhs, inter, comparison}
+use Rattle.c_syntax.specs.declared.expressions.Identifier.{Identifier}
+use Rattle.sides.specs.declared.begins.Begun.{Begun}
+use Rattle.sides.specs.declared.begins.Begun.TheVariants as b
 use Rattle.sides.specs.declared.calls.Arguments.{Arguments}
 
 -- arguments, as what they make of a function's name
@@ -29,3 +32,11 @@ uncompared x = (inter x, None)
 -- an Interlocked call, with what it may be compared with
 abbrev pub locked : InterlockedCall × Option Compared → Inter × Option Comparison
 locked x = (inter x.0, option_map comparison x.1)
+
+-- what a right side begins with
+abbrev pub cast : Identifier → g.Begun
+cast x = g.Cast (id x)
+
+abbrev pub begun : Begun → g.Begun
+begun (b.Plain x) = g.Plain (exp x)
+begun (b.Cast x) = g.Cast (id x)

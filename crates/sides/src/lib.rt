@@ -5,3 +5,4 @@ pub mod places;
 pub mod allocations;
 pub mod calls;
 pub mod interlocked;
+pub mod begins;
