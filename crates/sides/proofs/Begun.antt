@@ -1,11 +1,11 @@
 -- What a right side begins with: where no cast comes next, the expression that the tokens begin with, level by level.
-use Rattle.std.proofs.Common.{◌≡◌, ◌≤◌, ◌+◌, ◌-◌, ℕ, zero, suc, max, min, nat_le, Bool, true, false, cond, List, [], ◌∷◌, ◌++◌, Result, Ok, Err, refl, ap, sym, ◌∙◌, subst, arith}
-use Rattle.std.specs.Prelude.{◌==◌, ◌&&◌, ◌||◌, if◌then◌else◌}
+use Rattle.std.proofs.Common.{◌≡◌, ◌≤◌, ◌-◌, ℕ, zero, suc, max, min, nat_le, Bool, true, false, cond, List, [], ◌∷◌, ◌++◌, Ok, Err, refl, ap, sym, ◌∙◌, arith}
+use Rattle.std.specs.Prelude.{◌==◌, ◌&&◌, ◌||◌}
 use Rattle.ebnf.specs.Rules.{token, below, nothing, row, by_next, form, pick, chain}
 use Rattle.ebnf.specs.Sets.{has, first, first_rule, low, low_rule, is_empty}
 use Rattle.ebnf.specs.Derives.{next}
-use Rattle.ebnf.specs.Tools.{true_le, le_true, true_not_false, has_right, eq_true, and_left, and_right}
-use Rattle.ebnf.specs.Reading.{Out, Fault, Unexpected, TooDeep, on, enter, take, read, read_rule, reads, links}
+use Rattle.ebnf.specs.Tools.{true_le, le_true, has_right, eq_true, and_left, and_right}
+use Rattle.ebnf.specs.Reading.{Out, Fault, Unexpected, TooDeep, on, take, read, read_rule, reads, links}
 use Rattle.c_syntax.specs.declared.token.Span.{Span}
 use Rattle.c_syntax.specs.declared.token.Sign.TheVariants as s
 use Rattle.c_syntax.specs.declared.token.Keyword.TheVariants as k
@@ -199,7 +199,7 @@ choice_alike = record {
   least = refl;
   empty = refl;
   reads = λ room. row_mapped room g.over_begun (word (sign s.Question)) (choice ▷ colon_begun) (choice ▷ colon_exp) (row_mapped room over_after choice colon_begun colon_exp
-  (row_mapped room over_two (word (sign s.Colon)) last_begun last_exp (row_mapped room over_three choice (nothing (λ z c y o l. g.over_begun (λ x. e.Conditional o x y z) l)) (nothing (λ z c y o l. e.Conditional o l y z)) (λ ts. refl))));
+      (row_mapped room over_two (word (sign s.Colon)) last_begun last_exp (row_mapped room over_three choice (nothing (λ z c y o l. g.over_begun (λ x. e.Conditional o x y z) l)) (nothing (λ z c y o l. e.Conditional o l y z)) (λ ts. refl))));
 }
 
 -- ---- what stands leftmost
@@ -396,13 +396,11 @@ cast_err (suc room) (t ∷ mid) e h fits q =
     let n : 2 ≤ suc room = le_true 2 (suc room) fits in
     reads_start room (t ∷ mid) ∙ up_err room (t ∷ mid) e (prefix_cast room t mid b.0 ∙ stays_err room g.start_primary _ (t ∷ mid) e (primary_cast room t mid b.0 b.1 (true_le 1 room (omega arith)) ∙ ap (λ i. rule_at i cast (t ∷ mid)) (sym (less room)) ∙ q))
 
-
 pub cast_deep : (room : ℕ) (ts : List Lexeme) → begins_cast ts ≡ true → nat_le 2 room ≡ false → reads language room g.Start ts ≡ Err (TooDeep, ts)
 unfolding reads
 cast_deep zero ts h fits = refl
 cast_deep (suc room) [] h fits = absurd cc
 cast_deep (suc room) (t ∷ mid) h fits = let b = begun_by t mid h in up_err room (t ∷ mid) (TooDeep, t ∷ mid) (prefix_cast room t mid b.0 ∙ stays_err room g.start_primary _ (t ∷ mid) (TooDeep, t ∷ mid) (primary_deep room t mid b.0 fits))
-
 
 pub plain_read : (room : ℕ) (ts : List Lexeme) → begins_cast ts ≡ false → reads language room g.Start ts ≡ plainly (reads language room (g.Level g.Code g.Choice) ts)
 unfolding reads

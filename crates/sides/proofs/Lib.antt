@@ -4,3 +4,6 @@ pub mod Listed
 pub mod Repeats
 pub mod Compares
 pub mod Begun
+pub mod Pends
+pub mod Chosen
+pub mod Changes

@@ -26,11 +26,7 @@ pub enum Begun {
 
 /// A cast, one level of height down.
 #[tactic(auto, unfolding(ebnf::specs::Reading::read, ebnf::specs::Reading::read_rule))]
-fn cast_rule<'a>(
-    alloc: Global,
-    room: u32,
-    tokens: &'a [Token<'a>],
-) -> Reading<'a, Identifier>
+fn cast_rule<'a>(alloc: Global, room: u32, tokens: &'a [Token<'a>]) -> Reading<'a, Identifier>
     ensures gives { Gives views.cast result (rule_at room rows.cast (lexemes tokens.now)) }
     ensures high { IfOk result (λ x. x.height ≡ 2) }
 {
