@@ -1,7 +1,6 @@
 -- Left sides: something, and arrows behind.
-use Rattle.std.proofs.Common.{◌≡◌, ℕ, suc, max, List, Result, Ok, Err, refl, ap, sym, ◌∙◌, arith}
-use Rattle.ebnf.specs.Rules.{below}
-use Rattle.ebnf.specs.Reading.{Out, on, read, read_rule, reads, links}
+use Rattle.std.proofs.Common.{◌≡◌, ℕ, suc, max, List, Ok, Err, refl, ap, ◌∙◌, arith}
+use Rattle.ebnf.specs.Reading.{Out, on, read, read_rule, reads}
 use Rattle.c_syntax.specs.Lexing.{Lexeme}
 use Rattle.c_syntax.specs.Expressions.{Exp}
 use Rattle.c_syntax.specs.Language.{language}

@@ -1,5 +1,5 @@
 -- Interlocked calls, and a comparison behind.
-use Rattle.std.proofs.Common.{◌≡◌, ◌≤◌, ◌+◌, ℕ, zero, suc, max, nat_le, Bool, true, false, cond, List, Option, None, Some, Result, Ok, Err, refl, ap, sym, ◌∙◌, arith}
+use Rattle.std.proofs.Common.{◌≡◌, ◌≤◌, ℕ, zero, suc, max, nat_le, Bool, true, false, cond, List, Option, None, Some, Ok, Err, refl, ap, ◌∙◌}
 use Rattle.std.specs.Prelude.{◌==◌, ◌||◌}
 use Rattle.ebnf.specs.Sets.{has, first, low, is_empty}
 use Rattle.ebnf.specs.Derives.{next}
@@ -25,7 +25,7 @@ other false false e f = f
 
 pub unequal : (room : ℕ) (ts : List Lexeme) → 1 ≤ room → (next language ts == sign s.Equal) ≡ false → has (first language g.comparison) (next language ts) ≡ true → part room g.comparison ts ≡ part room (compared s.NotEqual false) ts
 unfolding read first low is_empty
-unequal room ts le h k = let n = other (next language ts == sign s.Equal) (next language ts == sign s.NotEqual) h k in rw h (rw n (rw (true_le 1 room le) refl))
+unequal room ts le h k = rw h (rw (other (next language ts == sign s.Equal) (next language ts == sign s.NotEqual) h k) (rw (true_le 1 room le) refl))
 
 pub low_comparison : low language g.comparison ≡ 1
 unfolding low

@@ -3,3 +3,7 @@ pub mod Parts
 pub mod Listed
 pub mod Repeats
 pub mod Compares
+pub mod Begun
+pub mod Pends
+pub mod Chosen
+pub mod Changes

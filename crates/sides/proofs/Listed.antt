@@ -1,8 +1,8 @@
 -- Lists that may have nothing in them.
-use Rattle.std.proofs.Common.{◌≡◌, ◌≤◌, ℕ, nat_le, Bool, true, false, List, [], Result, Ok, Err, refl, ap, sym, ◌∙◌, arith}
+use Rattle.std.proofs.Common.{◌≡◌, ℕ, nat_le, true, false, List, [], Ok, Err, refl, arith}
 use Rattle.ebnf.specs.Sets.{has, first, low, is_empty}
 use Rattle.ebnf.specs.Derives.{next}
-use Rattle.ebnf.specs.Reading.{Out, TooDeep, read, reads}
+use Rattle.ebnf.specs.Reading.{TooDeep, read}
 use Rattle.ebnf.specs.Tools.{true_le}
 use Rattle.c_syntax.specs.Lexing.{Lexeme}
 use Rattle.c_syntax.specs.Language.{language}

@@ -1,12 +1,11 @@
 -- Parts of the grammar, read one by one.
-use Rattle.std.proofs.Common.{◌≡◌, ℕ, suc, max, List, Result, Ok, Err, refl, ap, sym, ◌∙◌, arith}
-use Rattle.ebnf.specs.Rules.{below, row, token, nothing, form}
-use Rattle.ebnf.specs.Reading.{Out, on, read, read_rule, reads}
+use Rattle.std.proofs.Common.{◌≡◌, ℕ, max, List, Ok, refl, ap, ◌∙◌}
+use Rattle.ebnf.specs.Rules.{below, row, token, nothing}
+use Rattle.ebnf.specs.Reading.{on, read, reads}
 use Rattle.c_syntax.specs.Lexing.{Lexeme}
 use Rattle.c_syntax.specs.Language.{language}
-use Rattle.c_syntax.specs.Grammar as g
 use Rattle.c_syntax.specs.Grammar.{P, V, N}
-use Rattle.expr_reader.specs.Reading.{part, rule_at, one_token}
+use Rattle.expr_reader.specs.Reading.{part, one_token}
 
 module _ {A : Type 0} (room : ℕ) where
   pub row_read : {B : Type 0} (p : P B) (q : P (B → A)) (ts : List Lexeme) → part room (row p q) ts ≡ on language (part room p ts) (λ b i mid. on language (part room q mid) (λ f j rest. Ok (f b, max i j, rest)))

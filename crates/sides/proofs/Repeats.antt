@@ -1,11 +1,11 @@
 -- Repetitions, one after the other, up to the answer of the whole.
-use Rattle.std.proofs.Common.{◌≡◌, ℕ, suc, ◌+◌, ◌<◌, ◌≤◌, max, Bool, true, false, List, [], ◌∷◌, ◌++◌, length, Result, Ok, Err, refl, ap, sym, ◌∙◌, arith, map}
+use Rattle.std.proofs.Common.{◌≡◌, ℕ, ◌<◌, max, Bool, true, false, List, [], ◌∷◌, length, Ok, Err, refl, ap, sym, ◌∙◌, arith}
 use Rattle.std.specs.Prelude.{◌==◌, ◌||◌}
 use Rattle.std.proofs.lemmas.List.{length-map}
 use Rattle.ebnf.specs.Rules.{many}
 use Rattle.ebnf.specs.Sets.{has, first, more, is_empty, is_predictive}
 use Rattle.ebnf.specs.Derives.{next}
-use Rattle.ebnf.specs.Reading.{Out, on, read, reads}
+use Rattle.ebnf.specs.Reading.{Out, on, read}
 use Rattle.c_syntax.specs.declared.token.Token.{Token}
 use Rattle.c_syntax.specs.Lexing.{Lexeme, lexeme}
 use Rattle.c_syntax.specs.Language.{language}

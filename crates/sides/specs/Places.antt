@@ -1,5 +1,4 @@
 -- Left sides, as the reader goes through them.
-use Rattle.std.specs.Prelude.{ℕ}
 use Rattle.c_syntax.specs.declared.token.Span.{Span}
 use Rattle.c_syntax.specs.declared.expressions.Identifier.{Identifier}
 use Rattle.c_syntax.specs.Expressions as e

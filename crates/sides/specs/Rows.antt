@@ -1,6 +1,6 @@
 -- Rows of the grammar, as the reader goes through them.
-use Rattle.std.specs.Prelude.{ℕ, suc, max, nat_le, Bool, if◌then◌else◌, List, Option, None, Some, Ok, Err}
-use Rattle.ebnf.specs.Rules.{token, below, nothing, many, form}
+use Rattle.std.specs.Prelude.{ℕ, suc, max, nat_le, ◌==◌, Bool, false, ◌&&◌, if◌then◌else◌, List, [], ◌∷◌, Option, None, Some, Ok, Err}
+use Rattle.ebnf.specs.Rules.{token, below, nothing, by_value, by_next, many, form}
 use Rattle.ebnf.specs.Sets.{has, first}
 use Rattle.ebnf.specs.Derives.{next}
 use Rattle.ebnf.specs.Reading.{Out, TooDeep, on}
@@ -13,7 +13,8 @@ use Rattle.c_syntax.specs.declared.tree.Interlocked.{Interlocked}
 use Rattle.c_syntax.specs.Classes.{key, sign}
 use Rattle.c_syntax.specs.Lexing.{Lexeme}
 use Rattle.c_syntax.specs.Language.{language}
-use Rattle.c_syntax.specs.Expressions.{Id, Exp, Inter, Comparison}
+use Rattle.c_syntax.specs.Expressions as e
+use Rattle.c_syntax.specs.Expressions.{Id, Exp, Inter, Comparison, Rhs, Assignment}
 use Rattle.c_syntax.specs.Grammar as g
 use Rattle.c_syntax.specs.Grammar.{P, R, ◌▷◌, word, name}
 use Rattle.expr_reader.specs.Reading.{part}
@@ -60,3 +61,69 @@ abbrev pub compare : ℕ → Inter → ℕ → List Lexeme → Out language (Int
 compare room x k ts =
     if has (first language g.comparison) (next language ts) then (if nat_le (max k 1) room then on language (part room g.comparison ts) (λ y i rest. Ok ((x, Some y), suc (max k i), rest)) else Err (TooDeep, ts))
     else Ok ((x, None), k, ts)
+
+-- ---- what a right side begins with
+
+-- `(` and `struct` come next
+abbrev pub begins_cast : List Lexeme → Bool
+begins_cast [] = false
+begins_cast (x ∷ rest) = (language.class x == sign s.Open) && (next language rest == key k.Struct)
+
+-- a cast behind its `(`
+abbrev pub cast_behind : P (Span → g.Begun)
+cast_behind = g.struct_pointer ▷ word (sign s.Close) ▷ nothing (λ c x o. g.Cast x.1)
+
+abbrev pub cast : R g.Begun
+cast = form (word (sign s.Open) ▷ cast_behind ▷ nothing (λ f o. f o))
+
+-- ---- right sides
+
+-- `malloc` behind a cast
+abbrev pub malloc_behind : P (g.Begun → g.Pending)
+malloc_behind = word (key k.Malloc) ▷ g.size_of ▷ nothing (λ f m x. g.Done (e.Malloc (g.cast_name x) m (f m)))
+
+-- the brackets of a call, behind what may be a name
+abbrev pub called : P (g.Pending → Rhs)
+called = g.call_behind ▷ nothing (λ f x. e.Called (f (g.callee x)))
+
+abbrev pub called_or_done : P (g.Pending → Rhs)
+called_or_done = by_next called (nothing g.done)
+
+-- a name so high, and what is read behind it
+abbrev pub name_or_call : ℕ → Id → ℕ → List Lexeme → Out language Rhs
+name_or_call room x k ts = on language (part room called_or_done ts) (λ f i rest. Ok (f (g.Open (e.Name x)), max k i, rest))
+
+-- an expression, a call, or a `malloc` behind a cast
+abbrev pub value_or_call : P Rhs
+value_or_call = by_value g.cast_done g.is_bare called_or_done (nothing g.done)
+
+-- a `malloc` without a cast
+abbrev pub malloc_right : P Rhs
+malloc_right = below g.Allocation (λ x. e.Malloc None x.0 x.1)
+
+abbrev pub locked_right : P Rhs
+locked_right = below g.InterlockedCall (λ x. e.Locked x.0 x.1)
+
+-- ---- assignments
+
+abbrev pub set_behind : P (Exp → Assignment)
+set_behind = word (sign s.Assign) ▷ g.rhs ▷ nothing (λ x o l. record { left = l; place = o; effect = e.Set x })
+
+abbrev pub add_behind : P (Exp → Assignment)
+add_behind = word (sign s.AddAssign) ▷ g.code ▷ nothing (λ x o l. record { left = l; place = o; effect = e.Add x })
+
+abbrev pub subtract_behind : P (Exp → Assignment)
+subtract_behind = word (sign s.SubtractAssign) ▷ g.code ▷ nothing (λ x o l. record { left = l; place = o; effect = e.Subtract x })
+
+abbrev pub step_behind : P (Exp → Assignment)
+step_behind = by_next (token (sign s.Increment) 0 (λ x l. record { left = l; place = x.place; effect = e.Increment })) (token (sign s.Decrement) 0 (λ x l. record { left = l; place = x.place; effect = e.Decrement }))
+
+-- a left side so high, and what is read behind it
+abbrev pub assigned : ℕ → Exp → ℕ → List Lexeme → Out language Assignment
+assigned room x k ts = on language (part room g.assignment_behind ts) (λ f i rest. Ok (f x, suc (max k i), rest))
+
+abbrev pub assigned_name : R Assignment
+assigned_name = form (below g.NamePlace (λ x. x) ▷ g.assignment_behind ▷ nothing (λ f l. f l))
+
+abbrev pub assigned_other : R Assignment
+assigned_other = form (below g.OtherPlace (λ x. x) ▷ g.assignment_behind ▷ nothing (λ f l. f l))

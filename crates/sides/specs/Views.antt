@@ -10,8 +10,14 @@ use Rattle.c_syntax.specs.declared.expressions.InterlockedCall.{InterlockedCall}
 use Rattle.c_syntax.specs.declared.expressions.Compared.{Compared}
 use Rattle.c_syntax.specs.Grammar as g
 use Rattle.c_syntax.specs.Expressions as e
-use Rattle.c_syntax.specs.Expressions.{Id, CallTree, Inter, Comparison}
-use Rattle.c_syntax.specs.Views.{id, exp, exps, rhs, inter, comparison}
+use Rattle.c_syntax.specs.Expressions.{Id, Exp, CallTree, Inter, Comparison, Assignment}
+use Rattle.c_syntax.specs.Views.{id, exp, exps, rhs, effect, inter, comparison}
+use Rattle.c_syntax.specs.declared.expressions.Identifier.{Identifier}
+use Rattle.sides.specs.declared.assignments.Behind.{Behind}
+use Rattle.sides.specs.declared.begins.Begun.{Begun}
+use Rattle.sides.specs.declared.begins.Begun.TheVariants as b
+use Rattle.sides.specs.declared.rights.Pending.{Pending}
+use Rattle.sides.specs.declared.rights.Pending.TheVariants as p
 use Rattle.sides.specs.declared.calls.Arguments.{Arguments}
 
 -- arguments, as what they make of a function's name
@@ -29,3 +35,24 @@ uncompared x = (inter x, None)
 -- an Interlocked call, with what it may be compared with
 abbrev pub locked : InterlockedCall × Option Compared → Inter × Option Comparison
 locked x = (inter x.0, option_map comparison x.1)
+
+-- what a right side begins with
+abbrev pub cast : Identifier → g.Begun
+cast x = g.Cast (id x)
+
+abbrev pub begun : Begun → g.Begun
+begun (b.Plain x) = g.Plain (exp x)
+begun (b.Cast x) = g.Cast (id x)
+
+-- a `malloc`, as what it makes of the cast in front
+abbrev pub malloc_behind : Span × Identifier → g.Begun → g.Pending
+malloc_behind x y = g.Done (e.Malloc (g.cast_name y) x.0 (id x.1))
+
+-- a right side that is done, or that may turn out to be a call
+abbrev pub pending : Pending → g.Pending
+pending (p.Done x) = g.Done (rhs x)
+pending (p.Open x) = g.Open (exp x)
+
+-- what stands behind a left side, as what it makes of that side
+abbrev pub behind : Behind → Exp → Assignment
+behind x l = record { left = l; place = x.span; effect = effect x.change }

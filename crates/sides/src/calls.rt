@@ -51,11 +51,7 @@ pub fn begins_code<'a>(tokens: &'a [Token<'a>]) -> bool
 
 /// Expressions with commas between, or none.
 #[tactic(auto, using(crate::proofs::Listed::some_listed, crate::proofs::Listed::none_listed, crate::proofs::Listed::too_deep))]
-pub fn list_or_none<'a>(
-    alloc: Global,
-    room: u32,
-    tokens: &'a [Token<'a>],
-) -> Reading<'a, Vec<Expr>>
+pub fn list_or_none<'a>(alloc: Global, room: u32, tokens: &'a [Token<'a>]) -> Reading<'a, Vec<Expr>>
     requires room { room < 1000 }
     ensures gives { Gives (λ v. exps v.items) result (part room (g.list_or_none g.code) (lexemes tokens.now)) }
     ensures low { IfOk result (λ x. x.height ≤ room) }
@@ -73,11 +69,7 @@ pub fn list_or_none<'a>(
 
 /// A ghost argument, one level of height down.
 #[tactic(auto, unfolding(ebnf::specs::Reading::read, ebnf::specs::Reading::read_rule))]
-fn ghost_argument_rule<'a>(
-    alloc: Global,
-    room: u32,
-    tokens: &'a [Token<'a>],
-) -> Reading<'a, Expr>
+fn ghost_argument_rule<'a>(alloc: Global, room: u32, tokens: &'a [Token<'a>]) -> Reading<'a, Expr>
     requires room { room < 1000 }
     ensures gives { Gives exp result (rule_at room g.ghost_argument (lexemes tokens.now)) }
     ensures low { IfOk result (λ x. x.height ≤ room + 1) }
@@ -108,11 +100,7 @@ fn ghost_argument<'a>(alloc: Global, room: u32, tokens: &'a [Token<'a>]) -> Read
 
 /// One more ghost argument behind those that were found.
 #[tactic(auto, unfolding(ebnf::specs::Reading::read, ebnf::specs::Sets::low))]
-fn add_ghost<'a>(
-    alloc: Global,
-    room: u32,
-    found: Parsed<'a, Vec<Expr>>,
-) -> Reading<'a, Vec<Expr>>
+fn add_ghost<'a>(alloc: Global, room: u32, found: Parsed<'a, Vec<Expr>>) -> Reading<'a, Vec<Expr>>
     requires room { room < 1000 }
     requires low { found.height ≤ room }
     ensures gives { Gives (λ v. exps v.items) result (extended (exps found.entry.value.items) found.entry.height (entered room rows.ghost_argument (lexemes found.entry.rest.now))) }
@@ -153,11 +141,7 @@ pub fn ghost_arguments<'a>(
 
 /// The brackets of a call, with what stands in them.
 #[tactic(auto, using(crate::proofs::Parts::rows))]
-pub fn call_behind<'a>(
-    alloc: Global,
-    room: u32,
-    tokens: &'a [Token<'a>],
-) -> Reading<'a, Arguments>
+pub fn call_behind<'a>(alloc: Global, room: u32, tokens: &'a [Token<'a>]) -> Reading<'a, Arguments>
     requires room { room < 1000 }
     ensures gives { Gives views.call result (part room g.call_behind (lexemes tokens.now)) }
     ensures low { IfOk result (λ x. x.height ≤ room) }

@@ -46,7 +46,11 @@ fn locked_word<'a>(room: u32, tokens: &'a [Token<'a>]) -> Reading<'a, (Span, Int
     ensures flat { IfOk result (λ x. x.height ≡ 0) }
 {
     if next_is_key(Keyword::CompareExchange, tokens) {
-        return locked_by(Keyword::CompareExchange, Interlocked::CompareExchange, tokens);
+        return locked_by(
+            Keyword::CompareExchange,
+            Interlocked::CompareExchange,
+            tokens,
+        );
     }
     if next_is_key(Keyword::Exchange, tokens) {
         return locked_by(Keyword::Exchange, Interlocked::Exchange, tokens);

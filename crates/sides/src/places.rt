@@ -78,7 +78,7 @@ fn after_arrow<'a>(alloc: Global, left: Parsed<'a, Expr>) -> Reading<'a, Expr>
 
 /// A number, `NULL` or brackets, as an expression of its own.
 #[tactic(auto, unfolding(ebnf::specs::Reading::reads))]
-fn unnamed_whole<'a>(alloc: Global, room: u32, tokens: &'a [Token<'a>]) -> Reading<'a, Expr>
+pub fn unnamed_whole<'a>(alloc: Global, room: u32, tokens: &'a [Token<'a>]) -> Reading<'a, Expr>
     requires room { room < 1000 }
     ensures gives { Gives exp result (reads language room g.Unnamed (lexemes tokens.now)) }
     ensures low { IfOk result (λ x. (1 ≤ room) × (x.height ≤ room)) }

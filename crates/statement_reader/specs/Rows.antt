@@ -12,8 +12,8 @@ use Rattle.c_syntax.specs.Statements as st
 use Rattle.c_syntax.specs.Statements.{Inv, Stm}
 use Rattle.c_syntax.specs.Grammar as g
 use Rattle.c_syntax.specs.Grammar.{P, R, ◌▷◌, word, name, inside, code, optional, ctype, stms_of, leaf, loop_body, first_value, else_part, if_of, is_name, call_statement, assign_statement, ghost_arguments, list_or_none, whole_spec}
-use Rattle.statement_reader.specs.declared.sides_stub.Behind.{Behind}
-use Rattle.statement_reader.specs.Stub.{behind}
+use Rattle.sides.specs.declared.assignments.Behind.{Behind}
+use Rattle.sides.specs.Views.{behind}
 use Rattle.statement_reader.specs.declared.kinds.Kind.{Kind}
 use Rattle.statement_reader.specs.declared.kinds.Kind.TheVariants as kinds
 use Rattle.statement_reader.specs.declared.kinds.Annotation.{Annotation}

@@ -4,4 +4,5 @@
 pub mod blocks;
 pub mod kinds;
 pub mod simple;
-pub mod sides_stub;
+pub mod ghosts_stub;
+pub mod statements;

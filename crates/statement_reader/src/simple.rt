@@ -12,7 +12,7 @@ ghost use Rattle.expr_reader.specs.Reading.{Gives, lexemes, part, rule_at};
 ghost use Rattle.statement_reader.specs.Rows as rows;
 ghost use Rattle.statement_reader.specs.Rows.{at_span};
 
-use crate::sides_stub::{Behind, assignment_behind, ghost_body, rhs};
+use crate::ghosts_stub::ghost_body;
 use c_syntax::expressions::{Assignment, Call, Expr, Identifier, Right};
 use c_syntax::statements::{Invariant, Stmt};
 use c_syntax::token::{Keyword, Sign, Span, Token};
@@ -21,8 +21,10 @@ use expr_reader::levels::{Mode, Tier};
 use expr_reader::reading::{Parsed, ReadFault, Reading, fits};
 use expr_reader::tokens::{next_is, take, take_key, take_name};
 use expr_reader::types::ctype;
+use sides::assignments::{Behind, assignment_behind};
 use sides::calls::{Arguments, begins_code, call_behind, code, ghost_arguments, list_or_none};
 use sides::places::{name_place, other_place};
+use sides::rights::rhs;
 use std::alloc::Global;
 
 /// `;`

@@ -1,10 +1,9 @@
-use Rattle.std.proofs.Common.{◌≡◌, ◌≤◌, ◌∙◌, sym, refl, ap, arith, List, Vec}
+use Rattle.std.proofs.Common.{◌∙◌, sym, ap, arith, Vec}
 use Rattle.std.proofs.lemmas.Result.{err_from_is_err_and}
 use Rattle.std.specs.declared.alloc.Global.{Global}
 use Rattle.c_syntax.specs.declared.expressions.Expr.{Expr}
 use Rattle.c_syntax.specs.Views.{exps}
-use Rattle.c_syntax.specs.Expressions.{Exp}
-use Rattle.expr_reader.specs.Reading.{lexemes, part}
+use Rattle.expr_reader.specs.Reading.{lexemes}
 use Rattle.sides.specs.Rows.{ghost_argument}
 use Rattle.sides.proofs.Repeats.{going, start, stop, goes, fails, shorter, begins_ghost, fine_ghost, some_ghost}
 use Rattle.sides.proofs.calls.ghost_arguments.Goals as goal

@@ -1,6 +1,5 @@
 use Rattle.std.proofs.Common.{◌≡◌, ◌≤◌, length}
 use Rattle.c_syntax.specs.Views.{exps}
-use Rattle.c_syntax.specs.Grammar as g
 use Rattle.expr_reader.specs.Reading.{lexemes, part}
 use Rattle.sides.specs.Rows as rows
 use Rattle.sides.proofs.Repeats.{going}

@@ -1,0 +1,6 @@
+//! Ghost statements, and the annotations of code.
+#![tactic(auto)]
+
+pub mod ghost_places;
+pub mod ghost_rights;
+pub mod sets;
