@@ -4,5 +4,3 @@
 pub mod blocks;
 pub mod kinds;
 pub mod simple;
-pub mod ghosts_stub;
-pub mod statements;

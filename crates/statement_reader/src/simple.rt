@@ -12,7 +12,6 @@ ghost use Rattle.expr_reader.specs.Reading.{Gives, lexemes, part, rule_at};
 ghost use Rattle.statement_reader.specs.Rows as rows;
 ghost use Rattle.statement_reader.specs.Rows.{at_span};
 
-use crate::ghosts_stub::ghost_body;
 use c_syntax::expressions::{Assignment, Call, Expr, Identifier, Right};
 use c_syntax::statements::{Invariant, Stmt};
 use c_syntax::token::{Keyword, Sign, Span, Token};
@@ -432,28 +431,6 @@ pub fn assertion<'a>(
     Ok(Parsed {
         value: Stmt::Assert(span, property.value),
         height: property.height,
-        rest: close.rest,
-    })
-}
-
-/// `_(ghost ..)` behind the `_(`.
-#[tactic(auto, using(sides::proofs::Parts::rows))]
-pub fn ghost_statement<'a>(
-    alloc: Global,
-    span: Span,
-    room: u32,
-    tokens: &'a [Token<'a>],
-) -> Reading<'a, Stmt>
-    requires room { room < 1000 }
-    ensures gives { Gives stm result (at_span span (part room rows.ghost (lexemes tokens.now))) }
-    ensures low { IfOk result (λ x. x.height ≤ room) }
-{
-    let word = take_key(Keyword::Ghost, tokens)?;
-    let body = ghost_body(alloc, room, word.rest)?;
-    let close = take(Sign::Close, body.rest)?;
-    Ok(Parsed {
-        value: Stmt::Ghost(span, body.value),
-        height: body.height,
         rest: close.rest,
     })
 }
