@@ -3,4 +3,6 @@
 
 pub mod effects;
 pub mod laws;
+mod search;
+pub mod stable;
 pub mod status;
