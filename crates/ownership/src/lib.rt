@@ -6,3 +6,5 @@ pub mod laws;
 mod search;
 pub mod stable;
 pub mod status;
+#[cfg(test)]
+mod tests;
