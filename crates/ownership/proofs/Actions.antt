@@ -1,12 +1,12 @@
 -- What the actions leave.
-use Rattle.std.proofs.Common.{◌≡◌, ℕ, Bool, true, false, ◌+◌, cond, ◌&&◌, List, refl, sym, ap, ◌∙◌}
+use Rattle.std.proofs.Common.{◌≡◌, ℕ, Bool, true, false, ◌+◌, cond, ◌&&◌, List, refl, ap, ◌∙◌}
 use Rattle.object_types.specs.declared.references.Ref.{Ref}
 use Rattle.object_types.specs.declared.records.Mode.TheVariants.{Closed}
 use Rattle.method.specs.declared.program.CheckKind.{CheckKind}
 use Rattle.method.specs.declared.program.CheckKind.TheVariants.{Write, Writes, Owns, Wrap, Unwrap, Claimed as HasClaims, Invariant}
 use Rattle.object_types.specs.References.{same_ref}
 use Rattle.object_types.specs.Sets.{is_in, every, with_member, without_member}
-use Rattle.object_types.specs.Heap.{Heap, Record, put, hand_over, mutable, wrapped}
+use Rattle.object_types.specs.Heap.{Heap, put, hand_over, mutable, wrapped}
 use Rattle.object_types.specs.Values.{is_zero_int}
 use Rattle.method.specs.Invariants.{inv_holds}
 use Rattle.method.specs.Expressions.{Outcome, Gave, Gives, Spot, Tested, inv_test, check, check_spec, is_listed, may_write}

@@ -1,7 +1,6 @@
 -- How a search widens.
-use Rattle.std.proofs.Common.{◌≡◌, ℕ, suc, ◌+◌, ◌≤◌, ◌<◌, Bool, true, false, not, cond, ◌&&◌, ◌||◌, List, [], ◌∷◌, ◌++◌, length, get_or, take, refl, sym, ap, subst, ◌∙◌, arith, length-append}
-use Rattle.std.specs.Prelude.{count_by}
-use Rattle.std.proofs.lemmas.Bool.{both_ways, and_parts}
+use Rattle.std.proofs.Common.{◌≡◌, ℕ, ◌+◌, ◌≤◌, ◌<◌, Bool, true, false, not, ◌&&◌, ◌||◌, List, [], ◌∷◌, ◌++◌, length, get_or, take, refl, sym, ap, subst, ◌∙◌, arith, length-append}
+use Rattle.std.proofs.lemmas.Bool.{both_ways, or_left, or_right}
 use Rattle.std.proofs.lemmas.List.{take_more, take_all}
 use Rattle.object_types.specs.declared.references.Ref.{Ref}
 use Rattle.object_types.specs.References.{same_ref, ref_lt}
@@ -9,7 +8,7 @@ use Rattle.object_types.specs.Sets.{is_in, is_ordered, with_member}
 use Rattle.object_types.proofs.Orders.{ref_order}
 use Rattle.object_types.proofs.Members.{is_in_with}
 use Rattle.ownership.specs.declared.search.Search.{Search}
-use Rattle.ownership.specs.Searching.{Adds, left_of}
+use Rattle.ownership.specs.Searching.{Adds}
 use Rattle.ownership.proofs.Lists.{or_false, or_true, in_append, in_one, in_none}
 use Rattle.ownership.proofs.Counting.{counts_at_most, counts_less, length_with}
 
@@ -38,14 +37,6 @@ waits_twice false false true true = refl
 waits_twice false false true false = refl
 waits_twice false false false true = refl
 waits_twice false false false false = refl
-
-or_left : (p q : Bool) → p ≡ true → (p || q) ≡ true
-or_left true q h = refl
-or_left false q h = absurd (cc)
-
-or_right : (p q : Bool) → q ≡ true → (p || q) ≡ true
-or_right true q h = refl
-or_right false q h = h
 
 pub adds_then : (p r : Ref → Bool) (a b c : Search) → Adds p a b → Adds r b c → Adds (λ q. p q || r q) a c
 adds_then p r a b c first second = record {

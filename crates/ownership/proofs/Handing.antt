@@ -1,12 +1,12 @@
 -- Members pass to another owner one by one.
-use Rattle.std.proofs.Common.{◌≡◌, ℕ, ◌+◌, ◌<◌, ◌≤◌, Bool, true, false, cond, ◌||◌, List, [], ◌∷◌, ◌++◌, length, get_or, take, refl, sym, ap, subst, ◌∙◌}
+use Rattle.std.proofs.Common.{◌≡◌, ℕ, ◌+◌, ◌<◌, ◌≤◌, Bool, true, false, cond, ◌||◌, List, [], ◌∷◌, ◌++◌, length, get_or, take, refl, sym, ap, ◌∙◌}
 use Rattle.std.proofs.lemmas.List.{take_more, take_all}
 use Rattle.object_types.specs.declared.references.Ref.{Ref}
 use Rattle.object_types.specs.declared.records.Mode.{Mode}
 use Rattle.object_types.specs.declared.records.Stored.{Stored}
 use Rattle.object_types.specs.References.{same_ref}
 use Rattle.object_types.specs.Sets.{is_in}
-use Rattle.object_types.specs.Heap.{Heap, Record, put_at, with_status}
+use Rattle.object_types.specs.Heap.{Record, put_at, with_status}
 use Rattle.object_types.specs.Lookups.{look_up}
 use Rattle.object_types.proofs.Orders.{ref_order}
 use Rattle.ownership.proofs.Lists.{in_append, in_one, or_false, or_true}

@@ -1,8 +1,8 @@
 -- The search finds the stable set.
-use Rattle.std.proofs.Common.{◌≡◌, ℕ, ◌+◌, ◌≤◌, ◌<◌, ◌⊎◌, inl, inr, ◌↔◌, IsTrue, IsFalse, Bool, true, false, not, cond, ◌&&◌, ◌||◌, List, [], ◌∷◌, ◌++◌, Some, length, refl, sym, ap, subst, ◌∙◌, arith, length-append}
+use Rattle.std.proofs.Common.{◌≡◌, ◌<◌, inl, inr, ◌↔◌, IsTrue, Bool, true, false, not, cond, ◌&&◌, ◌||◌, List, [], ◌∷◌, ◌++◌, Some, length, refl, sym, ap, subst, ◌∙◌, arith, length-append}
 use Rattle.std.specs.List.{find}
 use Rattle.std.specs.Prelude.{count_by}
-use Rattle.std.proofs.lemmas.Bool.{both_ways, or_cases, and_parts, and_from}
+use Rattle.std.proofs.lemmas.Bool.{both_ways, or_cases, or_left, or_right, and_parts, and_from}
 use Rattle.object_types.specs.declared.references.Ref.{Ref}
 use Rattle.object_types.specs.declared.records.Stored.{Stored}
 use Rattle.method.specs.declared.program.Program.{Program}
@@ -17,16 +17,8 @@ use Rattle.method.proofs.StableTest.{stable_set_law}
 use Rattle.object_types.proofs.Orders.{ref_order}
 use Rattle.ownership.specs.declared.search.Search.{Search}
 use Rattle.ownership.specs.Searching.{Adds, left_of}
-use Rattle.ownership.proofs.Lists.{or_false, in_append, in_one, in_none}
+use Rattle.ownership.proofs.Lists.{in_append, in_one, in_none}
 use Rattle.ownership.proofs.Ordered.{stable_ordered, same_members}
-
-or_right : (p q : Bool) → q ≡ true → (p || q) ≡ true
-or_right true q h = refl
-or_right false q h = h
-
-or_left : (p q : Bool) → p ≡ true → (p || q) ≡ true
-or_left true q h = refl
-or_left false q h = absurd (cc)
 
 -- What a member brings in.
 

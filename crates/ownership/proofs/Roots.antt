@@ -1,12 +1,12 @@
 -- The roots of a stable set are found in reference order.
-use Rattle.std.proofs.Common.{◌≡◌, ◌≢◌, ℕ, ◌+◌, ◌*◌, ◌-◌, ◌<◌, ◌≤◌, ◌^◌, ◌⊎◌, inl, inr, ⊎_elim, Bool, true, false, not, cond, ◌&&◌, ◌||◌, ◌==◌, List, [], ◌∷◌, Some, refl, sym, ap, subst, ◌∙◌, arith}
+use Rattle.std.proofs.Common.{◌≡◌, ◌+◌, ◌-◌, ◌<◌, ◌≤◌, ◌^◌, ◌⊎◌, inl, inr, Bool, true, false, cond, ◌&&◌, ◌||◌, ◌==◌, List, [], ◌∷◌, Some, refl, sym, ap, subst, ◌∙◌, arith}
 use Rattle.std.specs.Prelude.{nat_lt}
 use Rattle.std.specs.List.{find}
-use Rattle.std.proofs.lemmas.Bool.{both_ways, cases_lt, or_cases, or_parts, or_right, or_left, and_parts, and_from, eqb-true, ltb-true, ltb-false, lt-ltb, le-ltb, eq-eqb}
+use Rattle.std.proofs.lemmas.Bool.{both_ways, cases_lt, or_cases, or_parts, and_parts, eqb-true, ltb-true, ltb-false, le-ltb, eq-eqb}
 use Rattle.object_types.specs.declared.references.Ref.{Ref}
 use Rattle.object_types.specs.declared.records.Stored.{Stored}
 use Rattle.object_types.specs.References.{null, same_ref, ref_lt}
-use Rattle.object_types.specs.Sets.{every, is_ordered}
+use Rattle.object_types.specs.Sets.{every}
 use Rattle.object_types.specs.Heap.{Heap, Record, nothing, is_closed, wrapped}
 use Rattle.object_types.specs.Content.{IsFirst}
 use Rattle.object_types.specs.Lookups.{record_or_nothing, look_up, heap_of, is_tidy, IsKept}
