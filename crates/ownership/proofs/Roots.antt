@@ -5,7 +5,7 @@ use Rattle.std.specs.List.{find}
 use Rattle.std.proofs.lemmas.Bool.{both_ways, cases_lt, or_cases, or_parts, and_parts, eqb-true, ltb-true, ltb-false, le-ltb, eq-eqb}
 use Rattle.object_types.specs.declared.references.Ref.{Ref}
 use Rattle.object_types.specs.declared.records.Stored.{Stored}
-use Rattle.object_types.specs.References.{null, same_ref, ref_lt}
+use Rattle.object_types.specs.References.{ref, null, same_ref, ref_lt}
 use Rattle.object_types.specs.Sets.{every}
 use Rattle.object_types.specs.Heap.{Heap, Record, nothing, is_closed, wrapped}
 use Rattle.object_types.specs.Content.{IsFirst}
@@ -38,28 +38,34 @@ below_by_rank a b fits h = by_test (ref_lt a b) refl
               (let l : b.serial ≤ a.serial = ltb-false _ _ later in absurd (omega arith))
         ]
 
--- what stands in a heap of the code has a serial of 32 bits
-pub stands_within : (ss : List Stored) (q : Ref) → every is_tidy ss ≡ true → (look_up ss q ≡ nothing) ⊎ (q.serial < 4294967296)
+-- two words of 32 bits write the reference
+pub record IsWritten (q : Ref) : Type 0 where
+  pub serial : q.serial < 4294967296
+  pub ty : q.ty < 4294967296
+
+-- what stands in a heap of the code is written so
+pub stands_within : (ss : List Stored) (q : Ref) → every is_tidy ss ≡ true → (look_up ss q ≡ nothing) ⊎ IsWritten q
 stands_within [] q h = inl refl
 stands_within (s ∷ ss) q h =
     let parts = and_parts (is_tidy s) (every is_tidy ss) h in
     by_test (same_ref q s.reference) refl (stands_within ss q parts.1) parts.0
   where
-    by_test : (b : Bool) → same_ref q s.reference ≡ b → (look_up ss q ≡ nothing) ⊎ (q.serial < 4294967296) → is_tidy s ≡ true → (record_or_nothing (cond b (Some s) (find (λ t. same_ref q t.reference) ss)) ≡ nothing) ⊎ (q.serial < 4294967296)
+    by_test : (b : Bool) → same_ref q s.reference ≡ b → (look_up ss q ≡ nothing) ⊎ IsWritten q → is_tidy s ≡ true → (record_or_nothing (cond b (Some s) (find (λ t. same_ref q t.reference) ss)) ≡ nothing) ⊎ IsWritten q
     by_test true e rest tidy =
-        let serial : q.serial ≡ s.reference.serial = ap (λ (r : Ref). r.serial) (ref_order.equal q s.reference e) in
-        let fits : s.reference.serial < 4294967296 = ltb-true _ _ (and_parts (nat_lt s.reference.serial (2 ^ 32)) _ tidy).0 in
-        inr (omega arith)
+        let q_is = ref_order.equal q s.reference e in
+        let first = and_parts (nat_lt s.reference.serial (2 ^ 32)) _ tidy in
+        let second = and_parts (nat_lt s.reference.ty (2 ^ 32)) _ first.1 in
+        inr (subst IsWritten (sym q_is) (record { serial = ltb-true _ _ first.0; ty = ltb-true _ _ second.0 }))
     by_test false e rest tidy = rest
 
 -- nothing is closed where nothing stands
 pub nothing_wrapped : (ss : List Stored) (t q : Ref) → look_up ss q ≡ nothing → wrapped t (heap_of ss) q ≡ false
 nothing_wrapped ss t q e = ap (λ (r : Record). is_closed r.mode && same_ref r.owner t) e
 
-wrapped_within : (ss : List Stored) (t q : Ref) → IsKept ss → wrapped t (heap_of ss) q ≡ true → q.serial < 4294967296
+wrapped_within : (ss : List Stored) (t q : Ref) → IsKept ss → wrapped t (heap_of ss) q ≡ true → IsWritten q
 wrapped_within ss t q kept w = elim (stands_within ss q kept.tidy) [ inl none ↦ absurd (both_ways _ (nothing_wrapped ss t q none) w) | inr fits ↦ fits ]
 
-first_within : (ss : List Stored) (from o : Ref) → IsKept ss → IsFirst (look_up ss) from o → o.serial < 4294967296
+first_within : (ss : List Stored) (from o : Ref) → IsKept ss → IsFirst (look_up ss) from o → IsWritten o
 first_within ss from o kept first = elim (stands_within ss o kept.tidy) [ inl none ↦ absurd (first.something none) | inr fits ↦ fits ]
 
 -- the first that stands isn't before where the search began
@@ -76,10 +82,10 @@ search_step ss t from o next fits kept first after q w =
     by_tests (ref_lt q from) (same_ref q o) (ref_lt q o) refl refl refl
   where
     q_fits : q.serial < 4294967296
-    q_fits = wrapped_within ss t q kept w
+    q_fits = (wrapped_within ss t q kept w).serial
 
     o_fits : o.serial < 4294967296
-    o_fits = first_within ss from o kept first
+    o_fits = (first_within ss from o kept first).serial
 
     step : rank next ≡ rank o + 1
     step = after.next
@@ -118,6 +124,23 @@ under_test false false false h = refl
 pub roots_step : (ss : List Stored) (t from o next : Ref) → from.serial < 4294967296 → IsKept ss → IsFirst (look_up ss) from o → IsNext o next → (q : Ref) → ((ref_lt q from && wrapped t (heap_of ss) q) || (same_ref q o && wrapped t (heap_of ss) q)) ≡ (ref_lt q next && wrapped t (heap_of ss) q)
 roots_step ss t from o next fits kept first after q =
     or_and (ref_lt q from) (same_ref q o) (wrapped t (heap_of ss) q) ∙ under_test (ref_lt q from || same_ref q o) (ref_lt q next) (wrapped t (heap_of ss) q) (search_step ss t from o next fits kept first after q)
+
+-- and behind the last of all stands nothing
+pub roots_last : (ss : List Stored) (t from o : Ref) → IsKept ss → IsFirst (look_up ss) from o → o ≡ ref 4294967295 4294967295 → (q : Ref) → ((ref_lt q from && wrapped t (heap_of ss) q) || (same_ref q o && wrapped t (heap_of ss) q)) ≡ wrapped t (heap_of ss) q
+roots_last ss t from o kept first last q =
+    or_and (ref_lt q from) (same_ref q o) (wrapped t (heap_of ss) q) ∙ under_test (ref_lt q from || same_ref q o) true (wrapped t (heap_of ss) q) (λ w. by_tests w (ref_lt q from) (same_ref q o) (ref_lt q o) refl refl refl)
+  where
+    by_tests : wrapped t (heap_of ss) q ≡ true → (a b c : Bool) → ref_lt q from ≡ a → same_ref q o ≡ b → ref_lt q o ≡ c → (a || b) ≡ true
+    by_tests w true b c e f g = refl
+    by_tests w false true c e f g = refl
+    by_tests w false false true e f g = absurd (both_ways _ (nothing_wrapped ss t q (first.nothing_before q e g)) w)
+    by_tests w false false false e f g =
+        let written = wrapped_within ss t q kept w in
+        let q_ty : q.ty < 4294967296 = written.ty in
+        let q_serial : q.serial < 4294967296 = written.serial in
+        let above = rank_below o q (first_within ss from o kept first).serial (ref_order.total q o f g) in
+        let top : rank o ≡ rank (ref 4294967295 4294967295) = ap rank last in
+        absurd (omega (arith, above, top, q_ty, q_serial))
 
 pub roots_end : (ss : List Stored) (t from : Ref) → ((q : Ref) → ref_lt q from ≡ false → look_up ss q ≡ nothing) → (q : Ref) → (ref_lt q from && wrapped t (heap_of ss) q) ≡ wrapped t (heap_of ss) q
 roots_end ss t from none q = by_test (ref_lt q from) refl

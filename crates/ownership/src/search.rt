@@ -135,7 +135,7 @@ impl Search {
         while let Some(o) = h.first(from) {
             self.add_root(h, t, o)?;
             let Some(next) = next_reference(o) else {
-                return Err(AllocError);
+                return Ok(());
             };
             from = next;
         }
