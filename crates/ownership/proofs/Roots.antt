@@ -1,5 +1,5 @@
 -- The roots of a stable set are found in reference order.
-use Rattle.std.proofs.Common.{◌≡◌, ◌+◌, ◌-◌, ◌<◌, ◌≤◌, ◌^◌, ◌⊎◌, inl, inr, Bool, true, false, cond, ◌&&◌, ◌||◌, ◌==◌, List, [], ◌∷◌, Some, refl, sym, ap, subst, ◌∙◌, arith}
+use Rattle.std.proofs.Common.{◌≡◌, ◌≢◌, ◌+◌, ◌-◌, ◌<◌, ◌≤◌, ◌^◌, ◌⊎◌, inl, inr, Bool, true, false, cond, ◌&&◌, ◌||◌, ◌==◌, List, [], ◌∷◌, Some, refl, sym, ap, subst, ◌∙◌, arith}
 use Rattle.std.specs.Prelude.{nat_lt}
 use Rattle.std.specs.List.{find}
 use Rattle.std.proofs.lemmas.Bool.{both_ways, cases_lt, or_cases, or_parts, and_parts, eqb-true, ltb-true, ltb-false, le-ltb, eq-eqb}
@@ -62,11 +62,12 @@ stands_within (s ∷ ss) q h =
 pub nothing_wrapped : (ss : List Stored) (t q : Ref) → look_up ss q ≡ nothing → wrapped t (heap_of ss) q ≡ false
 nothing_wrapped ss t q e = ap (λ (r : Record). is_closed r.mode && same_ref r.owner t) e
 
-wrapped_within : (ss : List Stored) (t q : Ref) → IsKept ss → wrapped t (heap_of ss) q ≡ true → IsWritten q
-wrapped_within ss t q kept w = elim (stands_within ss q kept.tidy) [ inl none ↦ absurd (both_ways _ (nothing_wrapped ss t q none) w) | inr fits ↦ fits ]
+-- what is closed stands
+wrapped_stands : (ss : List Stored) (t q : Ref) → wrapped t (heap_of ss) q ≡ true → look_up ss q ≢ nothing
+wrapped_stands ss t q w none = both_ways _ (nothing_wrapped ss t q none) w
 
-first_within : (ss : List Stored) (from o : Ref) → IsKept ss → IsFirst (look_up ss) from o → IsWritten o
-first_within ss from o kept first = elim (stands_within ss o kept.tidy) [ inl none ↦ absurd (first.something none) | inr fits ↦ fits ]
+written : (ss : List Stored) (q : Ref) → IsKept ss → look_up ss q ≢ nothing → IsWritten q
+written ss q kept there = elim (stands_within ss q kept.tidy) [ inl none ↦ absurd (there none) | inr fits ↦ fits ]
 
 -- the first that stands isn't before where the search began
 pub first_rank : (from o : Ref) → from.serial < 4294967296 → ref_lt o from ≡ false → rank from ≤ rank o
@@ -76,16 +77,16 @@ first_rank from o fits h =
       | inr other ↦ other
     ]
 
--- each reference before the next one is before the one, or is it, or has no serial of 32 bits
-search_step : (ss : List Stored) (t from o next : Ref) → from.serial < 4294967296 → IsKept ss → IsFirst (look_up ss) from o → IsNext o next → (q : Ref) → wrapped t (heap_of ss) q ≡ true → (ref_lt q from || same_ref q o) ≡ ref_lt q next
-search_step ss t from o next fits kept first after q w =
+-- of what stands, the next reference is behind what the one is behind, and the one itself
+pub step_covers : (ss : List Stored) (from o next : Ref) → from.serial < 4294967296 → IsKept ss → IsFirst (look_up ss) from o → IsNext o next → (q : Ref) → look_up ss q ≢ nothing → (ref_lt q from || same_ref q o) ≡ ref_lt q next
+step_covers ss from o next fits kept first after q there =
     by_tests (ref_lt q from) (same_ref q o) (ref_lt q o) refl refl refl
   where
     q_fits : q.serial < 4294967296
-    q_fits = (wrapped_within ss t q kept w).serial
+    q_fits = (written ss q kept there).serial
 
     o_fits : o.serial < 4294967296
-    o_fits = (first_within ss from o kept first).serial
+    o_fits = (written ss o kept first.something).serial
 
     step : rank next ≡ rank o + 1
     step = after.next
@@ -96,7 +97,7 @@ search_step ss t from o next fits kept first after q w =
     by_tests : (a b c : Bool) → ref_lt q from ≡ a → same_ref q o ≡ b → ref_lt q o ≡ c → (a || b) ≡ ref_lt q next
     by_tests true b c e f g = sym (below_by_rank q next after.serial (let l = rank_below q from q_fits e in omega (arith, l, start, step)))
     by_tests false true c e f g = sym (below_by_rank q next after.serial (let same = ap rank (ref_order.equal q o f) in omega (arith, same, step)))
-    by_tests false false true e f g = absurd (both_ways _ (nothing_wrapped ss t q (first.nothing_before q e g)) w)
+    by_tests false false true e f g = absurd (there (first.nothing_before q e g))
     by_tests false false false e f g = by_next (ref_lt q next) refl
       where
         by_next : (d : Bool) → ref_lt q next ≡ d → false ≡ d
@@ -105,6 +106,22 @@ search_step ss t from o next fits kept first after q w =
             let above = rank_below o q o_fits (ref_order.total q o f g) in
             absurd (omega (arith, under, above, step))
         by_next false h = refl
+
+-- behind the last reference of all nothing stands
+pub last_covers : (ss : List Stored) (from o : Ref) → IsKept ss → IsFirst (look_up ss) from o → o ≡ ref 4294967295 4294967295 → (q : Ref) → look_up ss q ≢ nothing → (ref_lt q from || same_ref q o) ≡ true
+last_covers ss from o kept first last q there = by_tests (ref_lt q from) (same_ref q o) (ref_lt q o) refl refl refl
+  where
+    by_tests : (a b c : Bool) → ref_lt q from ≡ a → same_ref q o ≡ b → ref_lt q o ≡ c → (a || b) ≡ true
+    by_tests true b c e f g = refl
+    by_tests false true c e f g = refl
+    by_tests false false true e f g = absurd (there (first.nothing_before q e g))
+    by_tests false false false e f g =
+        let fits = written ss q kept there in
+        let q_ty : q.ty < 4294967296 = fits.ty in
+        let q_serial : q.serial < 4294967296 = fits.serial in
+        let above = rank_below o q (written ss o kept first.something).serial (ref_order.total q o f g) in
+        let top : rank o ≡ rank (ref 4294967295 4294967295) = ap rank last in
+        absurd (omega (arith, above, top, q_ty, q_serial))
 
 or_and : (a b w : Bool) → ((a && w) || (b && w)) ≡ ((a || b) && w)
 or_and true true true = refl
@@ -123,24 +140,11 @@ under_test false false false h = refl
 
 pub roots_step : (ss : List Stored) (t from o next : Ref) → from.serial < 4294967296 → IsKept ss → IsFirst (look_up ss) from o → IsNext o next → (q : Ref) → ((ref_lt q from && wrapped t (heap_of ss) q) || (same_ref q o && wrapped t (heap_of ss) q)) ≡ (ref_lt q next && wrapped t (heap_of ss) q)
 roots_step ss t from o next fits kept first after q =
-    or_and (ref_lt q from) (same_ref q o) (wrapped t (heap_of ss) q) ∙ under_test (ref_lt q from || same_ref q o) (ref_lt q next) (wrapped t (heap_of ss) q) (search_step ss t from o next fits kept first after q)
+    or_and (ref_lt q from) (same_ref q o) (wrapped t (heap_of ss) q) ∙ under_test (ref_lt q from || same_ref q o) (ref_lt q next) (wrapped t (heap_of ss) q) (λ w. step_covers ss from o next fits kept first after q (wrapped_stands ss t q w))
 
--- and behind the last of all stands nothing
 pub roots_last : (ss : List Stored) (t from o : Ref) → IsKept ss → IsFirst (look_up ss) from o → o ≡ ref 4294967295 4294967295 → (q : Ref) → ((ref_lt q from && wrapped t (heap_of ss) q) || (same_ref q o && wrapped t (heap_of ss) q)) ≡ wrapped t (heap_of ss) q
 roots_last ss t from o kept first last q =
-    or_and (ref_lt q from) (same_ref q o) (wrapped t (heap_of ss) q) ∙ under_test (ref_lt q from || same_ref q o) true (wrapped t (heap_of ss) q) (λ w. by_tests w (ref_lt q from) (same_ref q o) (ref_lt q o) refl refl refl)
-  where
-    by_tests : wrapped t (heap_of ss) q ≡ true → (a b c : Bool) → ref_lt q from ≡ a → same_ref q o ≡ b → ref_lt q o ≡ c → (a || b) ≡ true
-    by_tests w true b c e f g = refl
-    by_tests w false true c e f g = refl
-    by_tests w false false true e f g = absurd (both_ways _ (nothing_wrapped ss t q (first.nothing_before q e g)) w)
-    by_tests w false false false e f g =
-        let written = wrapped_within ss t q kept w in
-        let q_ty : q.ty < 4294967296 = written.ty in
-        let q_serial : q.serial < 4294967296 = written.serial in
-        let above = rank_below o q (first_within ss from o kept first).serial (ref_order.total q o f g) in
-        let top : rank o ≡ rank (ref 4294967295 4294967295) = ap rank last in
-        absurd (omega (arith, above, top, q_ty, q_serial))
+    or_and (ref_lt q from) (same_ref q o) (wrapped t (heap_of ss) q) ∙ under_test (ref_lt q from || same_ref q o) true (wrapped t (heap_of ss) q) (λ w. last_covers ss from o kept first last q (wrapped_stands ss t q w))
 
 pub roots_end : (ss : List Stored) (t from : Ref) → ((q : Ref) → ref_lt q from ≡ false → look_up ss q ≡ nothing) → (q : Ref) → (ref_lt q from && wrapped t (heap_of ss) q) ≡ wrapped t (heap_of ss) q
 roots_end ss t from none q = by_test (ref_lt q from) refl
@@ -149,13 +153,15 @@ roots_end ss t from none q = by_test (ref_lt q from) refl
     by_test true e = refl
     by_test false e = sym (nothing_wrapped ss t q (none q e))
 
--- no reference is before NULL
-pub roots_start : (t : Ref) (h : Heap) (q : Ref) → (ref_lt q null && wrapped t h q) ≡ false
-roots_start t h q = rw (le-ltb q.ty 0 (omega arith), le-ltb q.serial 0 (omega arith)) (by_test (q.ty == 0))
+pub none_before_null : (q : Ref) → ref_lt q null ≡ false
+none_before_null q = rw (le-ltb q.ty 0 (omega arith), le-ltb q.serial 0 (omega arith)) (by_test (q.ty == 0))
   where
-    by_test : (b : Bool) → ((false || (b && false)) && wrapped t h q) ≡ false
+    by_test : (b : Bool) → (false || (b && false)) ≡ false
     by_test true = refl
     by_test false = refl
+
+pub roots_start : (t : Ref) (h : Heap) (q : Ref) → (ref_lt q null && wrapped t h q) ≡ false
+roots_start t h q = ap (λ b. b && wrapped t h q) (none_before_null q)
 
 pub searched_on : (from o next : Ref) → from.serial < 4294967296 → ref_lt o from ≡ false → IsNext o next → 18446744073709551616 - rank next < 18446744073709551616 - rank from
 searched_on from o next fits h after =

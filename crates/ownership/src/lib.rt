@@ -3,7 +3,7 @@
 
 pub mod effects;
 pub mod laws;
-mod search;
+pub mod search;
 pub mod stable;
 pub mod status;
 #[cfg(test)]

@@ -25,7 +25,7 @@ pub(crate) struct Search {
 }
 
 /// The reference next behind the other, unless that is the last of all.
-fn next_reference(o: Ref) -> Option<Ref>
+pub fn next_reference(o: Ref) -> Option<Ref>
     ensures some { IfSome result (IsNext o) }
     ensures none { IfNone result (o ≡ ref 4294967295 4294967295) }
 {
