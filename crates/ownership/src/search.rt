@@ -125,8 +125,7 @@ impl Search {
         Ok(())
     }
 
-    /// Adds each object that is closed and t's. Nothing says that none stands above the last reference that two words
-    /// write, so where one stands there the search gives up.
+    /// Adds each object that is closed and t's.
     pub(crate) fn add_roots(&mut self, h: &Heap, t: Ref) -> Result<(), AllocError>
         ensures ok { OnOk result (Adds (wrapped t (heap_of h.now)) self.old self.new) }
     {

@@ -15,8 +15,7 @@ use object_types::references::Ref;
 use std::alloc::{AllocError, Global};
 
 /// The stable set of t: the least set that holds what is closed and t's, what closed claims in it claim, and what its
-/// members without `volatile_owns` own. Want of memory is also the answer where something stands at the last reference
-/// of all, 4294967295.4294967295.
+/// members without `volatile_owns` own.
 pub fn stable_set(
     alloc: Global,
     program: &Program,
