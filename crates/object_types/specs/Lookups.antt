@@ -44,9 +44,9 @@ changed (Owned member holds) r = with_owned member holds r
 changed (Listed object holds) r = with_listed object holds r
 changed (Shape entry holds) r = with_shape entry holds r
 
--- sets and rows in order, no kept field 0 or NULL, a serial of 32 bits
+-- sets and rows in order, no kept field 0 or NULL, a reference of 32 bits each
 abbrev pub is_tidy : Stored → Bool
-is_tidy s = nat_lt s.reference.serial (2 ^ 32) && (is_ordered ref_lt s.owned && (is_ordered ref_lt s.listed && (is_ordered kept_lt s.fields && (every is_set s.fields && is_ordered entry_lt s.shapes))))
+is_tidy s = nat_lt s.reference.serial (2 ^ 32) && (nat_lt s.reference.ty (2 ^ 32) && (is_ordered ref_lt s.owned && (is_ordered ref_lt s.listed && (is_ordered kept_lt s.fields && (every is_set s.fields && is_ordered entry_lt s.shapes)))))
 
 -- what is stored says nothing: as if nothing stood there
 abbrev pub is_blank : Stored → Bool

@@ -1,0 +1,4 @@
+pub mod Effects
+pub mod ActionEffects
+pub mod Ranks
+pub mod Searching
