@@ -4,6 +4,7 @@
 mod arithmetic;
 mod claims;
 pub mod env;
+pub mod eval;
 mod place;
 mod status;
 mod values;

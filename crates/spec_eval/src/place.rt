@@ -88,6 +88,16 @@ impl<'a> Place<'a> {
         }
     }
 
+    /// The same place, within one more quantifier.
+    pub fn within<'b>(&self, bound: &'b Bound<'b>) -> Place<'b>
+    where
+        'a: 'b,
+        ensures scene { scene_at result ≡ record (scene_at self.now) { bound = members_of bound.now } }
+        ensures program { result.program ≡ self.now.program }
+    {
+        Place { bound, ..*self }
+    }
+
     /// The same place, where a claim is spoken of.
     pub fn about(&self, claim: Ref) -> Place<'a>
         ensures scene { scene_at result ≡ about claim (scene_at self.now) }
