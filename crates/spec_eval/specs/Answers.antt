@@ -3,6 +3,9 @@ use Rattle.std.specs.Prelude.{◌≡◌, Option, Some, None, Result, Ok, Err}
 use Rattle.object_types.specs.declared.values.Value.{Value}
 use Rattle.int_ranges.specs.declared.exact.Wide.{Wide}
 use Rattle.method.specs.Overflow.{Overflow}
+use Rattle.spec_eval.specs.declared.env.EvalFault.{EvalFault}
+use Rattle.spec_eval.specs.declared.env.EvalFault.TheVariants.{OutOfMemory}
+use Rattle.spec_eval.specs.declared.env.EvalFault.TheVariants.{Wide as WideAt}
 
 -- the operands
 abbrev pub operands : Wide → Overflow
@@ -12,3 +15,8 @@ operands w = record { left = w.a; right = w.b }
 abbrev pub Gives : {X : Type 0} → Result X Wide → X → Option Overflow → Type 0
 Gives (Ok v) value first = (v ≡ value) × (first ≡ None)
 Gives (Err w) value first = first ≡ Some (operands w)
+
+-- the fault is that first result; memory is never wanted
+abbrev pub IsWideAt : EvalFault → Option Overflow → Type 0
+IsWideAt (WideAt w) first = first ≡ Some (operands w)
+IsWideAt OutOfMemory first = ⊥

@@ -20,4 +20,15 @@ members_of (Within' r p b) = r ∷ members_of b
 
 -- the scene at a place within an expression
 abbrev pub scene_at : Place → Scene
-scene_at at = record (scene_of at.env.now (heap_of at.before.now) (heap_of at.after.now)) { locals = (if at.is_old then at.env.now.entry.items ++ drop (length at.env.now.entry.items) at.env.now.locals.items else at.env.now.locals.items); bound = members_of at.bound.now; subject = at.subject }
+scene_at at =
+    record {
+      before = heap_of at.before.now;
+      after = heap_of at.after.now;
+      me = at.thread;
+      this = at.this;
+      locals = (if at.is_old then at.entry.now ++ drop (length at.entry.now) at.locals.now else at.locals.now);
+      entry = at.entry.now;
+      result = at.result;
+      bound = members_of at.bound.now;
+      subject = at.subject;
+    }

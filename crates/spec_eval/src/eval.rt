@@ -1,26 +1,79 @@
 //! The value of an annotation's expression.
 
-ghost use Rattle.std.specs.Prelude.{◌≡◌, ◌||◌, ◌&&◌, not, if◌then◌else◌, None};
+ghost use Rattle.std.specs.Prelude.{◌≡◌, ◌||◌, ◌&&◌, not, if◌then◌else◌, None, IfOk, OnOk, IfErr};
+ghost use Rattle.object_types.specs.Lookups.{heap_of};
 ghost use Rattle.method.specs.SpecValue.{value, holds};
 ghost use Rattle.object_types.specs.Values.{says, truth};
 ghost use Rattle.method.specs.Overflow.{overflow, list_overflow};
-ghost use Rattle.spec_eval.specs.Scenes.{scene_at};
-ghost use Rattle.spec_eval.specs.Answers.{Gives};
+ghost use Rattle.spec_eval.specs.Scenes.{scene_of, scene_at};
+ghost use Rattle.spec_eval.specs.Answers.{Gives, IsWideAt};
 ghost use Rattle.spec_eval.specs.Quantified.{each_holds, holds_there, overflow_there, is_met, met_overflow, of_each, of_each_overflow, of_some, of_some_overflow};
 
 use crate::claims::has;
+use crate::env::{Env, EvalFault};
 use crate::place::{Bound, Place};
 use crate::status::is_of;
 use crate::values::{is_true, referent, says};
 use crate::words;
 use int_ranges::exact::Wide;
-use method::program::{DeclaredType, Spec};
+use method::program::{DeclaredType, Program, Spec};
+use object_types::heap::Heap;
 use object_types::references::{NULL, Ref};
 use object_types::values::Value;
 
+/// The value of an expression.
+///
+/// # Errors
+/// Wide, with the operands of the first exact result on the way that leaves 128 bits.
+pub fn eval(
+    program: &Program,
+    e: &Spec,
+    before: &Heap,
+    after: &Heap,
+    env: &Env,
+) -> Result<Value, EvalFault>
+    ensures value { IfOk result (λ v. v ≡ value program.now e.now (scene_of env.now (heap_of before.now) (heap_of after.now))) }
+    ensures fits { OnOk result (overflow program.now e.now (scene_of env.now (heap_of before.now) (heap_of after.now)) ≡ None) }
+    ensures wide { IfErr result (λ f. IsWideAt f (overflow program.now e.now (scene_of env.now (heap_of before.now) (heap_of after.now)))) }
+{
+    let at = Place {
+        program,
+        before,
+        after,
+        thread: env.thread,
+        this: env.this,
+        locals: &env.locals,
+        entry: &env.entry,
+        is_old: false,
+        result: env.result,
+        bound: &Bound::Free,
+        subject: NULL,
+    };
+    work_out(&at, e).map_err(EvalFault::Wide)
+}
+
+/// Whether an expression holds.
+///
+/// # Errors
+/// As `eval`.
+pub fn holds(
+    program: &Program,
+    e: &Spec,
+    before: &Heap,
+    after: &Heap,
+    env: &Env,
+) -> Result<bool, EvalFault>
+    ensures holds { IfOk result (λ b. b ≡ holds program.now e.now (scene_of env.now (heap_of before.now) (heap_of after.now))) }
+    ensures fits { OnOk result (overflow program.now e.now (scene_of env.now (heap_of before.now) (heap_of after.now)) ≡ None) }
+    ensures wide { IfErr result (λ f. IsWideAt f (overflow program.now e.now (scene_of env.now (heap_of before.now) (heap_of after.now)))) }
+{
+    let value = eval(program, e, before, after, env)?;
+    Ok(is_true(value))
+}
+
 /// The value of an expression at a place.
 #[cycle(work_out)]
-pub fn work_out(at: &Place<'_>, e: &Spec) -> Result<Value, Wide>
+fn work_out(at: &Place<'_>, e: &Spec) -> Result<Value, Wide>
     ensures { Gives result (value at.now.program.now e.now (scene_at at.now)) (overflow at.now.program.now e.now (scene_at at.now)) }
 {
     match e {
@@ -29,9 +82,9 @@ pub fn work_out(at: &Place<'_>, e: &Spec) -> Result<Value, Wide>
         Spec::Null => Ok(Value::Ref(NULL)),
         Spec::Variable(i) => Ok(at.variable(*i)),
         Spec::Bound(i) => Ok(Value::Ref(at.bound.member(*i))),
-        Spec::This => Ok(Value::Ref(at.env.this)),
-        Spec::Me => Ok(Value::Ref(at.env.thread)),
-        Spec::Result => Ok(at.env.result),
+        Spec::This => Ok(Value::Ref(at.this)),
+        Spec::Me => Ok(Value::Ref(at.thread)),
+        Spec::Result => Ok(at.result),
         Spec::Field(o, f) => Ok(words::field(at, work_out(at, o)?, *f)),
         Spec::Closed(o) => Ok(words::closed(at, work_out(at, o)?)),
         Spec::Owner(o) => Ok(words::owner(at, work_out(at, o)?)),

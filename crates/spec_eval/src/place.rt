@@ -7,7 +7,6 @@ ghost use Rattle.method.specs.SpecValue.{old_scene, about, filling};
 ghost use Rattle.object_types.specs.declared.values.Value.TheVariants.{Ref as Refers};
 ghost use Rattle.spec_eval.specs.Scenes.{members_of, scene_at};
 
-use crate::env::Env;
 use crate::values::local;
 use method::program::{Hole, Program};
 use object_types::heap::Heap;
@@ -44,9 +43,18 @@ pub struct Place<'a> {
     pub program: &'a Program,
     pub before: &'a Heap,
     pub after: &'a Heap,
-    pub env: &'a Env,
+    /// `\me`
+    pub thread: Ref,
+    /// `\this`
+    pub this: Ref,
+    /// the variables of the function now
+    pub locals: &'a [Value],
+    /// its parameters at its entry
+    pub entry: &'a [Value],
     /// parameters have their values at entry
     pub is_old: bool,
+    /// `\result`
+    pub result: Value,
     pub bound: &'a Bound<'a>,
     /// the claim that a `\claims` around speaks of
     pub subject: Ref,
@@ -57,10 +65,10 @@ impl<'a> Place<'a> {
     pub fn variable(&self, i: u32) -> Value
         ensures { result ≡ local (scene_at self.now).locals i }
     {
-        if self.is_old && (i as usize) < self.env.entry.len() {
-            return local(&self.env.entry, i);
+        if self.is_old && (i as usize) < self.entry.len() {
+            return local(self.entry, i);
         }
-        local(&self.env.locals, i)
+        local(self.locals, i)
     }
 
     /// The value that fills a hole here.
@@ -70,9 +78,9 @@ impl<'a> Place<'a> {
         match hole {
             Hole::OfVariable(i) => self.variable(i),
             Hole::OfBound(i) => Value::Ref(self.bound.member(i)),
-            Hole::OfMe => Value::Ref(self.env.thread),
-            Hole::OfThis => Value::Ref(self.env.this),
-            Hole::OfResult => self.env.result,
+            Hole::OfMe => Value::Ref(self.thread),
+            Hole::OfThis => Value::Ref(self.this),
+            Hole::OfResult => self.result,
         }
     }
 

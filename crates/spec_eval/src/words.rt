@@ -67,30 +67,30 @@ pub fn member(at: &Place<'_>, o: Value, x: Value) -> Value
 
 /// `\wrapped(o)`
 pub fn wrapped(at: &Place<'_>, o: Value) -> Value
-    ensures { result ≡ says (wrapped at.now.env.now.thread (heap_of at.now.after.now) (referent o)) }
+    ensures { result ≡ says (wrapped at.now.thread (heap_of at.now.after.now) (referent o)) }
 {
-    says(is_wrapped(at.env.thread, at.after, referent(o)))
+    says(is_wrapped(at.thread, at.after, referent(o)))
 }
 
 /// `\wrapped0(o)`
 pub fn wrapped0(at: &Place<'_>, o: Value) -> Value
-    ensures { result ≡ says (wrapped0 at.now.env.now.thread (heap_of at.now.after.now) (referent o)) }
+    ensures { result ≡ says (wrapped0 at.now.thread (heap_of at.now.after.now) (referent o)) }
 {
-    says(is_wrapped_unclaimed(at.env.thread, at.after, referent(o)))
+    says(is_wrapped_unclaimed(at.thread, at.after, referent(o)))
 }
 
 /// `\mutable(o)`
 pub fn mutable(at: &Place<'_>, o: Value) -> Value
-    ensures { result ≡ says (mutable at.now.env.now.thread (heap_of at.now.after.now) (referent o)) }
+    ensures { result ≡ says (mutable at.now.thread (heap_of at.now.after.now) (referent o)) }
 {
-    says(is_mutable(at.env.thread, at.after, referent(o)))
+    says(is_mutable(at.thread, at.after, referent(o)))
 }
 
 /// `\fresh(o)`
 pub fn fresh(at: &Place<'_>, o: Value) -> Value
-    ensures { result ≡ says (not (same_ref (look_up at.now.before.now (referent o)).owner at.now.env.now.thread)) }
+    ensures { result ≡ says (not (same_ref (look_up at.now.before.now (referent o)).owner at.now.thread)) }
 {
-    says(!is_owner(at.env.thread, at.before, referent(o)))
+    says(!is_owner(at.thread, at.before, referent(o)))
 }
 
 /// Whether the claim claims the object.
