@@ -5,6 +5,7 @@ mod arithmetic;
 mod claims;
 pub mod env;
 pub mod eval;
+mod expression;
 mod place;
 mod status;
 mod values;

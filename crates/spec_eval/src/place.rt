@@ -3,10 +3,13 @@
 ghost use Rattle.std.specs.Prelude.{◌≡◌, slice_index_or};
 ghost use Rattle.object_types.specs.References.{null};
 ghost use Rattle.method.specs.Tables.{local};
-ghost use Rattle.method.specs.SpecValue.{old_scene, about, filling};
+ghost use Rattle.object_types.specs.Lookups.{heap_of};
+ghost use Rattle.method.specs.SpecValue.{old_scene, about, filling, claim_scene};
+ghost use Rattle.method.specs.Invariants.{inv_scene};
 ghost use Rattle.object_types.specs.declared.values.Value.TheVariants.{Ref as Refers};
-ghost use Rattle.spec_eval.specs.Scenes.{members_of, scene_at};
+ghost use Rattle.spec_eval.specs.Scenes.{members_of, scene_at, scene_of};
 
+use crate::env::Env;
 use crate::values::local;
 use method::program::{Hole, Program};
 use object_types::heap::Heap;
@@ -19,6 +22,9 @@ pub enum Bound<'a> {
     Free,
     Within(Ref, &'a Bound<'a>),
 }
+
+/// No quantifier is around.
+static FREE: Bound<'static> = Bound::Free;
 
 impl Bound<'_> {
     /// The member that the quantifier is at, 0 being the innermost; NULL where there are not so many.
@@ -61,6 +67,78 @@ pub struct Place<'a> {
 }
 
 impl<'a> Place<'a> {
+    /// Where a function's annotation begins.
+    pub fn in_function(
+        program: &'a Program,
+        before: &'a Heap,
+        after: &'a Heap,
+        env: &'a Env,
+    ) -> Place<'a>
+        ensures scene { scene_at result ≡ scene_of env.entry.now (heap_of before.entry.now) (heap_of after.entry.now) }
+        ensures program { result.program ≡ program.entry }
+    {
+        Place {
+            program,
+            before,
+            after,
+            thread: env.thread,
+            this: env.this,
+            locals: &env.locals,
+            entry: &env.entry,
+            is_old: false,
+            result: env.result,
+            bound: &FREE,
+            subject: NULL,
+        }
+    }
+
+    /// Where an invariant of the object begins, or with values a claim's conjunct.
+    fn outside(
+        program: &'a Program,
+        before: &'a Heap,
+        after: &'a Heap,
+        this: Ref,
+        values: &'a [Value],
+    ) -> Place<'a>
+        ensures scene { scene_at result ≡ record (inv_scene this (heap_of before.entry.now) (heap_of after.entry.now)) { locals = values.entry.now } }
+        ensures program { result.program ≡ program.entry }
+    {
+        Place {
+            program,
+            before,
+            after,
+            thread: NULL,
+            this,
+            locals: values,
+            entry: &[],
+            is_old: false,
+            result: Value::Int(0),
+            bound: &FREE,
+            subject: NULL,
+        }
+    }
+
+    /// Where an invariant of the object begins.
+    pub fn in_invariant(
+        program: &'a Program,
+        before: &'a Heap,
+        after: &'a Heap,
+        o: Ref,
+    ) -> Place<'a>
+        ensures scene { scene_at result ≡ inv_scene o (heap_of before.entry.now) (heap_of after.entry.now) }
+        ensures program { result.program ≡ program.entry }
+    {
+        Place::outside(program, before, after, o, &[])
+    }
+
+    /// Where a claim's conjunct begins, its holes having these values.
+    pub fn in_claim(program: &'a Program, heap: &'a Heap, values: &'a [Value]) -> Place<'a>
+        ensures scene { scene_at result ≡ claim_scene program.entry.now (heap_of heap.entry.now) values.entry.now }
+        ensures program { result.program ≡ program.entry }
+    {
+        Place::outside(program, heap, heap, NULL, values)
+    }
+
     /// The value of a variable here.
     pub fn variable(&self, i: u32) -> Value
         ensures { result ≡ local (scene_at self.now).locals i }

@@ -1,7 +1,7 @@
 use Rattle.spec_eval.specs.Scenes.{scene_at}
 use Rattle.spec_eval.specs.Quantified.{holds_there, overflow_there, is_met, met_overflow}
 use Rattle.spec_eval.proofs.Deciding.{HeldTo, EachTo, SomeTo}
-use Rattle.spec_eval.proofs.eval.+work_out.Given as goal
+use Rattle.spec_eval.proofs.expression.+work_out.Given as goal
 
 abbrev pub invariant-each-loop-conjunct : goal.invariant-each-loop-conjunct
 invariant-each-loop-conjunct l = HeldTo l.at.program.now (scene_at l.at) l.conjuncts l.conjunct-index

@@ -2,7 +2,7 @@ use Rattle.std.proofs.Common.{ap, Bor}
 use Rattle.method.specs.declared.program.Program.{Program}
 use Rattle.spec_eval.specs.Scenes.{scene_at}
 use Rattle.spec_eval.proofs.Conjuncts.{claims_gives, for_all_gives, exists_gives}
-use Rattle.spec_eval.proofs.eval.+work_out.Goals as goal
+use Rattle.spec_eval.proofs.expression.+work_out.Goals as goal
 
 pub work_out-returns-in_ok-work_out-in-Claims : goal.work_out-returns-in_ok-work_out-in-Claims
 work_out-returns-in_ok-work_out-in-Claims t c =
