@@ -1,5 +1,5 @@
 -- The code's lists of conjuncts, as the rows that the definitions go by.
-use Rattle.std.proofs.Common.{◌≡◌, ℕ, Bool, not, ◌&&◌, ◌||◌, if◌then◌else◌, List, Vec, Box, Global, refl, ap, ◌∙◌, Option, None, Result}
+use Rattle.std.proofs.Common.{◌≡◌, ℕ, Bool, ◌&&◌, if◌then◌else◌, List, Vec, Box, Global, refl, ap, ◌∙◌, Option, None, Result}
 use mathlib.Core.Former.{Count}
 use Rattle.object_types.specs.declared.references.Ref.{Ref}
 use Rattle.object_types.specs.declared.values.Value.{Value}
@@ -48,16 +48,16 @@ pub exists_value : (p : Program) (s : Scene) (n : ℕ) (ty : DeclaredType) (x : 
 exists_value p s n ty x es =
     let row = row_of (e.Exists n ty x es) in
     let hold : (m : Ref) → (in_type ty (Refers m) && all_hold p row.1 (bind_ref m s)) ≡ is_met p ty es.items s m =
-        λ m. ap (λ b. in_type ty (Refers m) && b) (row_holds p (bind_ref m s) row.0 row.1 ∙ ap (λ xs. each_holds p xs (bind_ref m s)) (e.items_hidden-the_row-Spec-0 es)) in
+    λ m. ap (λ b. in_type ty (Refers m) && b) (row_holds p (bind_ref m s) row.0 row.1 ∙ ap (λ xs. each_holds p xs (bind_ref m s)) (e.items_hidden-the_row-Spec-0 es)) in
     ap (λ (test : Ref → Bool). says (some test (s.after.get (referent (value p x.value s))).owned)) (λ i m. hold m i)
 
 pub exists_overflow : (p : Program) (s : Scene) (n : ℕ) (ty : DeclaredType) (x : Box e.Spec Global) (es : Vec e.Spec Global) → overflow p (e.Exists n ty x es) s ≡ or_else (overflow p x.value s) (of_some_overflow p ty es.items s (s.after.get (referent (value p x.value s))).owned)
 exists_overflow p s n ty x es =
     let row = row_of (e.Exists n ty x es) in
     let hold : (m : Ref) → (in_type ty (Refers m) && all_hold p row.1 (bind_ref m s)) ≡ is_met p ty es.items s m =
-        λ m. ap (λ b. in_type ty (Refers m) && b) (row_holds p (bind_ref m s) row.0 row.1 ∙ ap (λ xs. each_holds p xs (bind_ref m s)) (e.items_hidden-the_row-Spec-0 es)) in
+    λ m. ap (λ b. in_type ty (Refers m) && b) (row_holds p (bind_ref m s) row.0 row.1 ∙ ap (λ xs. each_holds p xs (bind_ref m s)) (e.items_hidden-the_row-Spec-0 es)) in
     let first : (m : Ref) → (if in_type ty (Refers m) then row_overflow p row.1 (bind_ref m s) else None) ≡ met_overflow p ty es.items s m =
-        λ m. ap (λ o. if in_type ty (Refers m) then o else None) (row_first p (bind_ref m s) row.0 row.1 ∙ ap (λ xs. list_overflow p xs (bind_ref m s)) (e.items_hidden-the_row-Spec-0 es)) in
+    λ m. ap (λ o. if in_type ty (Refers m) then o else None) (row_first p (bind_ref m s) row.0 row.1 ∙ ap (λ xs. list_overflow p xs (bind_ref m s)) (e.items_hidden-the_row-Spec-0 es)) in
     let members = (s.after.get (referent (value p x.value s))).owned in
     ap (λ (f : Ref → Option Overflow). or_else (overflow p x.value s) (until f (λ m. in_type ty (Refers m) && all_hold p row.1 (bind_ref m s)) members)) (λ i m. first m i)
     ∙ ap (λ (test : Ref → Bool). or_else (overflow p x.value s) (until (met_overflow p ty es.items s) test members)) (λ i m. hold m i)

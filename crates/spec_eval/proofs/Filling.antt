@@ -1,9 +1,9 @@
 -- The values of holes, compared with others from a place on.
-use Rattle.std.proofs.Common.{◌≡◌, ℕ, ◌+◌, ◌<◌, ◌≤◌, ◌⊎◌, inl, inr, true, false, List, length, map, get_or, refl, sym, ◌∙◌, ap, arith, eqb}
+use Rattle.std.proofs.Common.{◌≡◌, ℕ, ◌+◌, ◌<◌, ◌≤◌, ◌⊎◌, inl, inr, true, false, List, length, map, get_or, sym, ◌∙◌, ap, eqb}
 use Rattle.std.proofs.lemmas.List.{get_or-map, length-map}
 use Rattle.object_types.specs.declared.values.Value.{Value}
 use Rattle.object_types.specs.Values.{same_value, same_values}
-use Rattle.object_types.proofs.Rows.{From, from_start, from_next, differ_same, same_at_end}
+use Rattle.object_types.proofs.Rows.{From, from_next, differ_same, same_at_end}
 
 module _ {X : Type 0} (f : X → Value) (xs : List X) (values : List Value) where
   pub filled_next : (i : ℕ) (d : X) (v e : Value) → From (map f xs) values i → i < length xs → i < length values → v ≡ f (get_or xs i d) → same_value v (get_or values i e) ≡ true → From (map f xs) values (i + 1)

@@ -1,6 +1,5 @@
 -- What working out an expression answers. Own.
 use Rattle.std.specs.Prelude.{◌≡◌, Option, Some, None, Result, Ok, Err}
-use Rattle.object_types.specs.declared.values.Value.{Value}
 use Rattle.int_ranges.specs.declared.exact.Wide.{Wide}
 use Rattle.method.specs.Overflow.{Overflow}
 use Rattle.spec_eval.specs.declared.env.EvalFault.{EvalFault}

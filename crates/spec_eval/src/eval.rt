@@ -29,9 +29,9 @@ pub fn eval(
     after: &Heap,
     env: &Env,
 ) -> Result<Value, EvalFault>
-    ensures value { IfOk result (λ v. v ≡ value program.now e.now (scene_of env.now (heap_of before.now) (heap_of after.now))) }
-    ensures fits { OnOk result (overflow program.now e.now (scene_of env.now (heap_of before.now) (heap_of after.now)) ≡ None) }
-    ensures wide { IfErr result (λ f. IsWideAt f (overflow program.now e.now (scene_of env.now (heap_of before.now) (heap_of after.now)))) }
+    ensures value { let s = scene_of env.now (heap_of before.now) (heap_of after.now) in IfOk result (λ v. v ≡ value program.now e.now s) }
+    ensures fits { let s = scene_of env.now (heap_of before.now) (heap_of after.now) in OnOk result (overflow program.now e.now s ≡ None) }
+    ensures wide { let s = scene_of env.now (heap_of before.now) (heap_of after.now) in IfErr result (λ f. IsWideAt f (overflow program.now e.now s)) }
 {
     let at = Place::in_function(program, before, after, env);
     work_out(&at, e).map_err(EvalFault::Wide)
@@ -48,9 +48,9 @@ pub fn holds(
     after: &Heap,
     env: &Env,
 ) -> Result<bool, EvalFault>
-    ensures holds { IfOk result (λ b. b ≡ holds program.now e.now (scene_of env.now (heap_of before.now) (heap_of after.now))) }
-    ensures fits { OnOk result (overflow program.now e.now (scene_of env.now (heap_of before.now) (heap_of after.now)) ≡ None) }
-    ensures wide { IfErr result (λ f. IsWideAt f (overflow program.now e.now (scene_of env.now (heap_of before.now) (heap_of after.now)))) }
+    ensures holds { let s = scene_of env.now (heap_of before.now) (heap_of after.now) in IfOk result (λ b. b ≡ holds program.now e.now s) }
+    ensures fits { let s = scene_of env.now (heap_of before.now) (heap_of after.now) in OnOk result (overflow program.now e.now s ≡ None) }
+    ensures wide { let s = scene_of env.now (heap_of before.now) (heap_of after.now) in IfErr result (λ f. IsWideAt f (overflow program.now e.now s)) }
 {
     let value = eval(program, e, before, after, env)?;
     Ok(is_true(value))
@@ -67,9 +67,9 @@ pub fn holds_of(
     after: &Heap,
     o: Ref,
 ) -> Result<bool, EvalFault>
-    ensures holds { IfOk result (λ b. b ≡ holds program.now e.now (inv_scene o (heap_of before.now) (heap_of after.now))) }
-    ensures fits { OnOk result (overflow program.now e.now (inv_scene o (heap_of before.now) (heap_of after.now)) ≡ None) }
-    ensures wide { IfErr result (λ f. IsWideAt f (overflow program.now e.now (inv_scene o (heap_of before.now) (heap_of after.now)))) }
+    ensures holds { let s = inv_scene o (heap_of before.now) (heap_of after.now) in IfOk result (λ b. b ≡ holds program.now e.now s) }
+    ensures fits { let s = inv_scene o (heap_of before.now) (heap_of after.now) in OnOk result (overflow program.now e.now s ≡ None) }
+    ensures wide { let s = inv_scene o (heap_of before.now) (heap_of after.now) in IfErr result (λ f. IsWideAt f (overflow program.now e.now s)) }
 {
     let at = Place::in_invariant(program, before, after, o);
     let value = work_out(&at, e).map_err(EvalFault::Wide)?;
@@ -82,8 +82,8 @@ pub fn holds_of(
 /// As `eval`.
 pub fn entry_holds(program: &Program, heap: &Heap, entry: &Entry) -> Result<bool, EvalFault>
     ensures holds { IfOk result (λ b. b ≡ entry_holds program.now (heap_of heap.now) entry.now) }
-    ensures fits { OnOk result (shape_overflow program.now (slice_get program.now.shapes.items entry.now.shape) (heap_of heap.now) entry.now.values ≡ None) }
-    ensures wide { IfErr result (λ f. IsWideAt f (shape_overflow program.now (slice_get program.now.shapes.items entry.now.shape) (heap_of heap.now) entry.now.values)) }
+    ensures fits { let shape = slice_get program.now.shapes.items entry.now.shape in OnOk result (shape_overflow program.now shape (heap_of heap.now) entry.now.values ≡ None) }
+    ensures wide { let shape = slice_get program.now.shapes.items entry.now.shape in IfErr result (λ f. IsWideAt f (shape_overflow program.now shape (heap_of heap.now) entry.now.values)) }
 {
     let Some(shape) = program.shapes.get(entry.shape as usize) else {
         return Ok(true);

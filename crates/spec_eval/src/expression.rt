@@ -61,12 +61,21 @@ pub fn work_out(at: &Place<'_>, e: &Spec) -> Result<Value, Wide>
         Spec::Wrapped0(o) => Ok(words::wrapped0(at, work_out(at, o)?)),
         Spec::Mutable(o) => Ok(words::mutable(at, work_out(at, o)?)),
         Spec::Fresh(o) => Ok(words::fresh(at, work_out(at, o)?)),
-        Spec::ClaimsObject(c, o) => Ok(words::lists(at, referent(work_out(at, c)?), work_out(at, o)?)),
-        Spec::Claims(c, conjuncts) => each(&at.about(referent(work_out(at, c)?)), conjuncts),
+        Spec::ClaimsObject(c, o) => Ok(words::lists(
+            at,
+            referent(work_out(at, c)?),
+            work_out(at, o)?,
+        )),
+        Spec::Claims(c, conjuncts) => all_hold(&at.about(referent(work_out(at, c)?)), conjuncts),
         Spec::Lists(o) => Ok(words::lists(at, at.subject, work_out(at, o)?)),
         Spec::Has(conjunct) => Ok(says(has(at, conjunct))),
         Spec::ForAll(_, ty, x, body) => for_all(at, *ty, words::owned(at, work_out(at, x)?), body),
-        Spec::Exists(_, ty, x, conjuncts) => exists(at, *ty, words::owned(at, work_out(at, x)?), conjuncts),
+        Spec::Exists(_, ty, x, conjuncts) => exists(
+            at,
+            *ty,
+            words::owned(at, work_out(at, x)?),
+            conjuncts,
+        ),
     }
 }
 
@@ -106,7 +115,7 @@ fn implies(at: &Place<'_>, left: Value, b: &Spec) -> Result<Value, Wide>
 /// Whether each conjunct holds, up to one that doesn't.
 #[cycle(work_out)]
 #[tactic(auto, using(crate::proofs::Deciding::held_err, crate::proofs::Deciding::held_false, crate::proofs::Deciding::held_stops, crate::proofs::Deciding::held_next, crate::proofs::Deciding::held_end, crate::proofs::Deciding::held_fits))]
-fn each(at: &Place<'_>, conjuncts: &[Spec]) -> Result<Value, Wide>
+fn all_hold(at: &Place<'_>, conjuncts: &[Spec]) -> Result<Value, Wide>
     ensures { let p = at.now.program.now in let s = scene_at at.now in Gives result (says (each_holds p conjuncts.now s)) (list_overflow p conjuncts.now s) }
 {
     for conjunct in conjuncts {
@@ -119,7 +128,7 @@ fn each(at: &Place<'_>, conjuncts: &[Spec]) -> Result<Value, Wide>
 
 /// Whether the body holds of the member, or it isn't of the declared type.
 #[cycle(work_out)]
-fn spares(at: &Place<'_>, ty: DeclaredType, member: Ref, body: &Spec) -> Result<bool, Wide>
+fn body_holds(at: &Place<'_>, ty: DeclaredType, member: Ref, body: &Spec) -> Result<bool, Wide>
     ensures { let p = at.now.program.now in let s = scene_at at.now in Gives result (holds_there p ty body.now s member) (overflow_there p ty body.now s member) }
 {
     if !is_of(ty, member) {
@@ -136,7 +145,7 @@ fn for_all(at: &Place<'_>, ty: DeclaredType, members: &[Ref], body: &Spec) -> Re
     ensures { let p = at.now.program.now in let s = scene_at at.now in Gives result (says (of_each p ty body.now s members.now)) (of_each_overflow p ty body.now s members.now) }
 {
     for member in members {
-        if !spares(at, ty, *member, body)? {
+        if !body_holds(at, ty, *member, body)? {
             return Ok(says(false));
         }
     }
@@ -145,14 +154,19 @@ fn for_all(at: &Place<'_>, ty: DeclaredType, members: &[Ref], body: &Spec) -> Re
 
 /// Whether the member is of the declared type, and the conjuncts hold of it.
 #[cycle(work_out)]
-fn meets(at: &Place<'_>, ty: DeclaredType, member: Ref, conjuncts: &[Spec]) -> Result<bool, Wide>
+fn conjuncts_hold(
+    at: &Place<'_>,
+    ty: DeclaredType,
+    member: Ref,
+    conjuncts: &[Spec],
+) -> Result<bool, Wide>
     ensures { let p = at.now.program.now in let s = scene_at at.now in Gives result (is_met p ty conjuncts.now s member) (met_overflow p ty conjuncts.now s member) }
 {
     if !is_of(ty, member) {
         return Ok(false);
     }
     let bound = Bound::Within(member, at.bound);
-    Ok(is_true(each(&at.within(&bound), conjuncts)?))
+    Ok(is_true(all_hold(&at.within(&bound), conjuncts)?))
 }
 
 /// Whether the conjuncts hold of some member of the declared type, up to one of which they do.
@@ -167,7 +181,7 @@ fn exists(
     ensures { let p = at.now.program.now in let s = scene_at at.now in Gives result (says (of_some p ty conjuncts.now s members.now)) (of_some_overflow p ty conjuncts.now s members.now) }
 {
     for member in members {
-        if meets(at, ty, *member, conjuncts)? {
+        if conjuncts_hold(at, ty, *member, conjuncts)? {
             return Ok(says(true));
         }
     }

@@ -8,5 +8,7 @@ pub mod eval;
 mod expression;
 mod place;
 mod status;
+#[cfg(test)]
+mod tests;
 mod values;
 mod words;

@@ -1,10 +1,10 @@
 use Rattle.spec_eval.specs.Scenes.{scene_at}
-use Rattle.spec_eval.specs.Quantified.{holds_there, overflow_there, is_met, met_overflow}
+use Rattle.spec_eval.specs.Quantified.{is_met, met_overflow}
 use Rattle.spec_eval.proofs.Deciding.{HeldTo, EachTo, SomeTo}
 use Rattle.spec_eval.proofs.expression.+work_out.Given as goal
 
-abbrev pub invariant-each-loop-conjunct : goal.invariant-each-loop-conjunct
-invariant-each-loop-conjunct l = HeldTo l.at.program.now (scene_at l.at) l.conjuncts l.conjunct-index
+abbrev pub invariant-all_hold-loop-conjunct : goal.invariant-all_hold-loop-conjunct
+invariant-all_hold-loop-conjunct l = HeldTo l.at.program.now (scene_at l.at) l.conjuncts l.conjunct-index
 
 abbrev pub invariant-for_all-loop-member : goal.invariant-for_all-loop-member
 invariant-for_all-loop-member l = EachTo l.at.program.now l.ty l.body (scene_at l.at) l.members l.member-index
