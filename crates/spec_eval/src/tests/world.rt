@@ -1,40 +1,42 @@
 //! The heaps, the variables and the program of the tables.
 
-use crate::env::Env;
+use super::notation::{Unread, read};
+use crate::env::{Env, EvalFault};
+use crate::eval::eval;
 use int_ranges::ctype::CType;
-use method::program::{DeclaredType, FieldInfo, Program};
+use method::program::{DeclaredType, FieldInfo, Program, Shape, Sort, Spec};
 use object_types::heap::Heap;
 use object_types::records::Mode;
 use object_types::references::{NULL, Ref};
 use object_types::values::Value;
 use std::alloc::{AllocError, Global};
 
-pub const ME: Ref = Ref { ty: 1, serial: 1 };
+const ME: Ref = Ref { ty: 1, serial: 1 };
 
-pub const OTHER: Ref = Ref { ty: 1, serial: 2 };
+const OTHER: Ref = Ref { ty: 1, serial: 2 };
 
 pub const A: Ref = Ref { ty: 3, serial: 1 };
 
 pub const B: Ref = Ref { ty: 3, serial: 2 };
 
-pub const C: Ref = Ref { ty: 4, serial: 1 };
+const C: Ref = Ref { ty: 4, serial: 1 };
 
-pub const D: Ref = Ref { ty: 4, serial: 2 };
+const D: Ref = Ref { ty: 4, serial: 2 };
 
 /// A claim.
-pub const K: Ref = Ref { ty: 2, serial: 1 };
+const K: Ref = Ref { ty: 2, serial: 1 };
 
 /// Open and mine.
-pub const O: Ref = Ref { ty: 3, serial: 3 };
+const O: Ref = Ref { ty: 3, serial: 3 };
 
 /// Wrapped, with a claim on it.
-pub const W: Ref = Ref { ty: 3, serial: 4 };
+const W: Ref = Ref { ty: 3, serial: 4 };
 
 /// Freed.
-pub const F: Ref = Ref { ty: 3, serial: 5 };
+const F: Ref = Ref { ty: 3, serial: 5 };
 
 /// Open and another thread's.
-pub const G: Ref = Ref { ty: 3, serial: 6 };
+const G: Ref = Ref { ty: 3, serial: 6 };
 
 /// The fields n and p of every struct.
 const N: u32 = 0;
@@ -42,7 +44,7 @@ const N: u32 = 0;
 const P: u32 = 1;
 
 /// The heap at the function's entry.
-pub fn before(alloc: Global) -> Result<Heap, AllocError> {
+fn before(alloc: Global) -> Result<Heap, AllocError> {
     let mut heap = Heap::empty(alloc);
     for (o, mode, owner, n) in [
         (A, Mode::Open, OTHER, 4),
@@ -85,7 +87,7 @@ fn objects(alloc: Global) -> Result<Heap, AllocError> {
 }
 
 /// The heap now. The claim claims B and W.
-pub fn after(alloc: Global) -> Result<Heap, AllocError> {
+fn after(alloc: Global) -> Result<Heap, AllocError> {
     let mut heap = objects(alloc)?;
     heap.set_listed(K, B, true)?;
     heap.set_listed(K, W, true)?;
@@ -96,7 +98,7 @@ pub fn after(alloc: Global) -> Result<Heap, AllocError> {
 }
 
 /// A function with the parameters x and p, and variables of its own.
-pub fn env(alloc: Global) -> Result<Env, AllocError> {
+fn env(alloc: Global) -> Result<Env, AllocError> {
     let locals = Vec::from_slice(
         alloc,
         &[
@@ -137,20 +139,59 @@ fn field(alloc: Global, name: &str, ty: DeclaredType) -> Result<FieldInfo, Alloc
     })
 }
 
-/// A program with the fields n and p.
-pub fn program(alloc: Global) -> Result<Program, AllocError> {
+fn shape(alloc: Global, holes: &[Sort], text: &str) -> Result<Shape, Unread> {
+    let holes = Vec::from_slice(alloc, holes)?;
+    let conjunct = read(alloc, text)?;
+    Ok(Shape { holes, conjunct })
+}
+
+/// A program with the fields n and p, and two shapes. Variable 0 of a shape is its first hole, written x, and 1 its second, written p.
+fn program(alloc: Global) -> Result<Program, Unread> {
     let mut fields = Vec::new(alloc);
     let n = field(alloc, "n", DeclaredType::Integer(CType::LongLong))?;
     fields.push(n)?;
     let p = field(alloc, "p", DeclaredType::Pointer(3))?;
     fields.push(p)?;
+    let mut shapes = Vec::new(alloc);
+    let is_value = shape(alloc, &[Sort::RefSort, Sort::IntSort], "== ->n x p")?;
+    shapes.push(is_value)?;
+    let is_positive = shape(alloc, &[Sort::IntSort], "> + x 1 0")?;
+    shapes.push(is_positive)?;
     Ok(Program {
         structs: Vec::new(alloc),
         fields,
         functions: Vec::new(alloc),
         sites: Vec::new(alloc),
-        shapes: Vec::new(alloc),
+        shapes,
         items: Vec::new(alloc),
         main: 0,
     })
+}
+
+/// All that an expression is worked out on.
+#[derive(Drop)]
+pub struct World {
+    pub program: Program,
+    pub before: Heap,
+    pub after: Heap,
+    pub env: Env,
+}
+
+impl World {
+    pub fn new(alloc: Global) -> Result<World, Unread> {
+        let program = program(alloc)?;
+        let before = before(alloc)?;
+        let after = after(alloc)?;
+        let env = env(alloc)?;
+        Ok(World {
+            program,
+            before,
+            after,
+            env,
+        })
+    }
+
+    pub fn eval(&self, e: &Spec) -> Result<Value, EvalFault> {
+        eval(&self.program, e, &self.before, &self.after, &self.env)
+    }
 }
