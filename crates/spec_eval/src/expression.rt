@@ -79,37 +79,37 @@ pub fn work_out(at: &Place<'_>, e: &Spec) -> Result<Value, Wide>
     }
 }
 
-/// `left && b`
+/// `left && right`
 #[cycle(work_out)]
-fn and(at: &Place<'_>, left: Value, b: &Spec) -> Result<Value, Wide>
-    ensures { let p = at.now.program.now in let s = scene_at at.now in Gives result (says (truth left && holds p b.now s)) (if truth left then overflow p b.now s else None) }
+fn and(at: &Place<'_>, left: Value, right: &Spec) -> Result<Value, Wide>
+    ensures { let p = at.now.program.now in let s = scene_at at.now in Gives result (says (truth left && holds p right.now s)) (if truth left then overflow p right.now s else None) }
 {
     if !is_true(left) {
         return Ok(says(false));
     }
-    Ok(says(is_true(work_out(at, b)?)))
+    Ok(says(is_true(work_out(at, right)?)))
 }
 
-/// `left || b`
+/// `left || right`
 #[cycle(work_out)]
-fn or(at: &Place<'_>, left: Value, b: &Spec) -> Result<Value, Wide>
-    ensures { let p = at.now.program.now in let s = scene_at at.now in Gives result (says (truth left || holds p b.now s)) (if truth left then None else overflow p b.now s) }
+fn or(at: &Place<'_>, left: Value, right: &Spec) -> Result<Value, Wide>
+    ensures { let p = at.now.program.now in let s = scene_at at.now in Gives result (says (truth left || holds p right.now s)) (if truth left then None else overflow p right.now s) }
 {
     if is_true(left) {
         return Ok(says(true));
     }
-    Ok(says(is_true(work_out(at, b)?)))
+    Ok(says(is_true(work_out(at, right)?)))
 }
 
-/// `left ==> b`
+/// `premise ==> conclusion`
 #[cycle(work_out)]
-fn implies(at: &Place<'_>, left: Value, b: &Spec) -> Result<Value, Wide>
-    ensures { let p = at.now.program.now in let s = scene_at at.now in Gives result (says (not (truth left) || holds p b.now s)) (if truth left then overflow p b.now s else None) }
+fn implies(at: &Place<'_>, premise: Value, conclusion: &Spec) -> Result<Value, Wide>
+    ensures { let p = at.now.program.now in let s = scene_at at.now in Gives result (says (not (truth premise) || holds p conclusion.now s)) (if truth premise then overflow p conclusion.now s else None) }
 {
-    if !is_true(left) {
+    if !is_true(premise) {
         return Ok(says(true));
     }
-    Ok(says(is_true(work_out(at, b)?)))
+    Ok(says(is_true(work_out(at, conclusion)?)))
 }
 
 /// Whether each conjunct holds, up to one that doesn't.
