@@ -6,7 +6,7 @@ use Rattle.spec_eval.specs.declared.env.EvalFault.{EvalFault}
 use Rattle.spec_eval.specs.declared.env.EvalFault.TheVariants.{OutOfMemory}
 use Rattle.spec_eval.specs.declared.env.EvalFault.TheVariants.{Wide as WideAt}
 
--- the operands
+-- the operands of a result that leaves 128 bits
 abbrev pub operands : Wide → Overflow
 operands w = record { left = w.a; right = w.b }
 

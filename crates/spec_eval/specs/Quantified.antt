@@ -1,4 +1,4 @@
--- What a quantifier asks of the members of a set, and a row of conjuncts of a scene. Own.
+-- What a quantifier asks of the members of an owned set, and a list of conjuncts of a scene, as the values and first overflows of quantified expressions have it (crate method, SpecValue and Overflow). Own.
 use Rattle.std.specs.Prelude.{Bool, not, ◌&&◌, ◌||◌, if◌then◌else◌, List, Option, None}
 use Rattle.object_types.specs.declared.references.Ref.{Ref}
 use Rattle.object_types.specs.declared.values.Value.TheVariants.{Ref as Refers}
@@ -19,6 +19,7 @@ module _ (p : Program) where
   abbrev pub holds_there : DeclaredType → Spec → Scene → Ref → Bool
   holds_there ty e s m = not (in_type ty (Refers m)) || holds p e (bind_ref m s)
 
+  -- the first overflow on the way to that
   abbrev pub overflow_there : DeclaredType → Spec → Scene → Ref → Option Overflow
   overflow_there ty e s m = if in_type ty (Refers m) then overflow p e (bind_ref m s) else None
 
@@ -26,19 +27,22 @@ module _ (p : Program) where
   abbrev pub is_met : DeclaredType → List Spec → Scene → Ref → Bool
   is_met ty es s m = in_type ty (Refers m) && each_holds es (bind_ref m s)
 
+  -- the first overflow on the way to that
   abbrev pub met_overflow : DeclaredType → List Spec → Scene → Ref → Option Overflow
   met_overflow ty es s m = if in_type ty (Refers m) then list_overflow p es (bind_ref m s) else None
 
-  -- of each member, and the first overflow up to one of which it doesn't hold
+  -- e holds of each member that is of the declared type
   abbrev pub of_each : DeclaredType → Spec → Scene → List Ref → Bool
   of_each ty e s ms = every (holds_there ty e s) ms
 
+  -- the first overflow on the way to that, which ends at a member of which e doesn't hold
   abbrev pub of_each_overflow : DeclaredType → Spec → Scene → List Ref → Option Overflow
   of_each_overflow ty e s ms = until (overflow_there ty e s) (λ m. in_type ty (Refers m) && not (holds p e (bind_ref m s))) ms
 
-  -- of some member, and the first overflow up to one of which they hold
+  -- each conjunct holds of some member that is of the declared type
   abbrev pub of_some : DeclaredType → List Spec → Scene → List Ref → Bool
   of_some ty es s ms = some (is_met ty es s) ms
 
+  -- the first overflow on the way to that, which ends at a member of which they hold
   abbrev pub of_some_overflow : DeclaredType → List Spec → Scene → List Ref → Option Overflow
   of_some_overflow ty es s ms = until (met_overflow ty es s) (is_met ty es s) ms

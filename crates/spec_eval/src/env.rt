@@ -23,8 +23,10 @@ pub struct Env {
 /// Why there is no value.
 #[derive(Clone, Copy, Debug, PartialEq, Eq, Error)]
 pub enum EvalFault {
+    /// An exact result leaves 128 bits.
     #[error("{0}")]
     Wide(Wide),
+    /// For the calls that stand on these and take memory; none of these does.
     #[error("out of memory")]
     OutOfMemory,
 }
