@@ -61,9 +61,9 @@ pub fn work_out(at: &Place<'_>, e: &Spec) -> Result<Value, Wide>
         Spec::Wrapped0(o) => Ok(words::wrapped0(at, work_out(at, o)?)),
         Spec::Mutable(o) => Ok(words::mutable(at, work_out(at, o)?)),
         Spec::Fresh(o) => Ok(words::fresh(at, work_out(at, o)?)),
-        Spec::ClaimsObject(c, o) => Ok(words::lists(
+        Spec::ClaimsObject(c, o) => Ok(words::claims_object(
             at,
-            referent(work_out(at, c)?),
+            work_out(at, c)?,
             work_out(at, o)?,
         )),
         Spec::Claims(c, conjuncts) => all_hold(&at.about(referent(work_out(at, c)?)), conjuncts),

@@ -372,3 +372,17 @@ fn what_holds_of_a_heap(rt: HostRuntime) -> Result<(), Fail> {
     }
     Ok(())
 }
+
+#[test]
+fn faults_say_why(rt: HostRuntime) -> Result<(), Fail> {
+    let wide = EvalFault::Wide(Wide { a: BIG, b: 1 });
+    let text = format!(in rt.alloc(); "{wide}")?;
+    assert_eq!(rt;
+        text.as_str(),
+        "the exact result of 170141183460469231731687303715884105727 and 1 leaves 128 bits"
+    );
+    let memory = EvalFault::OutOfMemory;
+    let text = format!(in rt.alloc(); "{memory}")?;
+    assert_eq!(rt; text.as_str(), "out of memory");
+    Ok(())
+}

@@ -100,6 +100,13 @@ pub fn lists(at: &Place<'_>, claim: Ref, o: Value) -> Value
     says(contains(at.after.listed(claim), referent(o)))
 }
 
+/// `\claims_object(claim, o)`
+pub fn claims_object(at: &Place<'_>, claim: Value, o: Value) -> Value
+    ensures { result ≡ says (is_in (referent o) (look_up at.now.after.now (referent claim)).listed) }
+{
+    lists(at, referent(claim), o)
+}
+
 /// `!a`
 pub fn negation(a: Value) -> Value
     ensures { result ≡ says (not (truth a)) }

@@ -9,7 +9,7 @@ work_out-returns-in_ok-work_out-in-Claims t c =
     let worked = c.in_ok-work_out-in-Claims.ensures in
     rw c.in-Claims.is
     (claims_gives c.args.at.now.program.now (scene_at c.args.at.now) c.in-Claims.c c.deref-in-Claims.result.now c.in_ok-work_out-in-Claims.field-0 c.all_hold.result c.deref-in-Claims.ensures worked.0 worked.1
-    c.in-Claims.conjuncts c.deref-in-Claims-2.result.now c.referent-in-Claims.result c.about.result.program.now (scene_at c.about.result) c.deref-in-Claims-2.ensures.value c.referent-in-Claims.ensures (ap (λ (r : Bor Program). r.now) c.about.ensures.program) c.about.ensures.scene c.all_hold.ensures)
+    c.in-Claims.conjuncts c.deref-in-Claims-2.result.now c.referent.result c.about.result.program.now (scene_at c.about.result) c.deref-in-Claims-2.ensures.value c.referent.ensures (ap (λ (r : Bor Program). r.now) c.about.ensures.program) c.about.ensures.scene c.all_hold.ensures)
 
 pub work_out-returns-in_ok-work_out-in-ForAll : goal.work_out-returns-in_ok-work_out-in-ForAll
 work_out-returns-in_ok-work_out-in-ForAll t c =
