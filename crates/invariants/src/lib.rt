@@ -1,6 +1,7 @@
-//! What a step owes: which objects it touches.
+//! The invariants of objects over a step, and which objects a step touches.
 #![tactic(auto)]
 
+pub mod invariant;
 #[cfg(test)]
 mod tests;
 pub mod touched;

@@ -1,0 +1,4 @@
+pub mod Members
+pub mod Filling
+pub mod Deciding
+pub mod Conjuncts
