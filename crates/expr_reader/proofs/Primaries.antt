@@ -189,7 +189,6 @@ form_quantifier_in quantifiers.Exists room ts false h e = rw e (rw (fits_one roo
 pub form_quantifier : (x : Quantifier) (room : ℕ) (ts : List Lexeme) → next language ts ≡ quantifier_class x → rule_at room (g.primary g.InSpec) ts ≡ entered_rule room (forms.quantified x) ts
 form_quantifier x room ts e = form_quantifier_in x room ts (nat_le 1 room) refl e
 
-
 -- ---- operators in front, and arrows behind
 
 prefix_in : (m : g.Mode) (o : UnaryOperator) (room : ℕ) (ts : List Lexeme) (b : Bool) → nat_le 1 room ≡ b → next language ts ≡ unary_class o → rule_at room (g.rule (g.Level m g.Prefix)) ts ≡ entered_rule room (unary m o) ts

@@ -78,7 +78,12 @@ fn code_suffix<'a>(alloc: Global, tokens: &'a [Token<'a>]) -> Reading<'a, Suffix
 
 /// What may stand behind an arrow.
 #[tactic(auto, unfolding(ebnf::specs::Reading::read, ebnf::specs::Sets::low))]
-fn suffix_of<'a>(alloc: Global, mode: Mode, room: u32, tokens: &'a [Token<'a>]) -> Reading<'a, Suffix>
+fn suffix_of<'a>(
+    alloc: Global,
+    mode: Mode,
+    room: u32,
+    tokens: &'a [Token<'a>],
+) -> Reading<'a, Suffix>
     ensures gives { Gives suffixes.suffix result (part room (g.suffix (mode_of mode)) (lexemes tokens.now)) }
     ensures low { IfOk result (λ x. (x.height ≤ 1) × (low language (levels.arrow (mode_of mode)) ≤ room → x.height ≤ room)) }
 {
@@ -112,12 +117,7 @@ fn least(mode: Mode) -> u32
 
 /// Goes on with the arrow that comes next.
 #[tactic(auto, unfolding(ebnf::specs::Reading::read))]
-fn one_arrow<'a>(
-    alloc: Global,
-    mode: Mode,
-    room: u32,
-    left: Parsed<'a, Expr>,
-) -> Reading<'a, Expr>
+fn one_arrow<'a>(alloc: Global, mode: Mode, room: u32, left: Parsed<'a, Expr>) -> Reading<'a, Expr>
     requires room { room < 1000 }
     ensures gives { Gives exp result (one_link room (levels.arrow (mode_of mode)) (exp left.entry.value) left.entry.height (lexemes left.entry.rest.now)) }
     ensures low { IfOk result (λ x. x.height ≤ room + 1) }
@@ -135,12 +135,7 @@ fn one_arrow<'a>(
 }
 
 /// Goes on with arrows. Each adds a level of height, so there are no more of them than there is room.
-pub fn arrows<'a>(
-    alloc: Global,
-    mode: Mode,
-    room: u32,
-    left: Parsed<'a, Expr>,
-) -> Reading<'a, Expr>
+pub fn arrows<'a>(alloc: Global, mode: Mode, room: u32, left: Parsed<'a, Expr>) -> Reading<'a, Expr>
     requires room { room < 1000 }
     requires low { left.height ≤ room + 1 }
     ensures gives { Gives exp result (linked (room + 1) room (levels.arrow (mode_of mode)) (exp left.entry.value) left.entry.height (lexemes left.entry.rest.now)) }

@@ -23,7 +23,8 @@ use crate::levels::{Mode, Tier, below, is_link, is_prefix, operator_at, right, t
 use crate::memory::{add, boxed, single};
 use crate::reading::{Parsed, ReadFault, Reading, fits};
 use crate::tokens::{
-    next_is, next_is_key, next_is_name, next_is_number, next_is_spec, take, take_name, take_operator, take_spec, take_unary,
+    next_is, next_is_key, next_is_name, next_is_number, next_is_spec, take, take_name,
+    take_operator, take_spec, take_unary,
 };
 use crate::types::gtype;
 use c_syntax::expressions::Expr;
@@ -126,7 +127,12 @@ fn one_link<'a>(
 /// `?`, an expression, `:` and another.
 #[cycle(expressions)]
 #[tactic(auto, unfolding(ebnf::specs::Reading::read))]
-fn conditional<'a>(alloc: Global, mode: Mode, room: u32, left: Parsed<'a, Expr>) -> Reading<'a, Expr>
+fn conditional<'a>(
+    alloc: Global,
+    mode: Mode,
+    room: u32,
+    left: Parsed<'a, Expr>,
+) -> Reading<'a, Expr>
     requires room { room < 1000 }
     requires low { left.height ≤ room }
     ensures gives { Gives exp result (joined (exp left.entry.value) left.entry.height (part room (levels.conditional (mode_of mode)) (lexemes left.entry.rest.now))) }
@@ -241,7 +247,12 @@ fn unary<'a>(
 
 /// An expression that no operator stands in, but in brackets.
 #[cycle(expressions)]
-pub fn primary<'a>(alloc: Global, mode: Mode, room: u32, tokens: &'a [Token<'a>]) -> Reading<'a, Expr>
+pub fn primary<'a>(
+    alloc: Global,
+    mode: Mode,
+    room: u32,
+    tokens: &'a [Token<'a>],
+) -> Reading<'a, Expr>
     requires room { room < 1000 }
     ensures gives { Gives exp result (rule_at room (g.primary (mode_of mode)) (lexemes tokens.now)) }
     ensures low { IfOk result (λ x. x.height ≤ room + 1) }
@@ -260,7 +271,12 @@ pub fn primary<'a>(alloc: Global, mode: Mode, room: u32, tokens: &'a [Token<'a>]
 
 /// A number, `NULL` or an expression in brackets.
 #[cycle(expressions)]
-pub fn unnamed<'a>(alloc: Global, mode: Mode, room: u32, tokens: &'a [Token<'a>]) -> Reading<'a, Expr>
+pub fn unnamed<'a>(
+    alloc: Global,
+    mode: Mode,
+    room: u32,
+    tokens: &'a [Token<'a>],
+) -> Reading<'a, Expr>
     requires room { room < 1000 }
     ensures gives { Gives exp result (rule_at room (g.unnamed (mode_of mode)) (lexemes tokens.now)) }
     ensures low { IfOk result (λ x. x.height ≤ room + 1) }

@@ -142,11 +142,7 @@ fn name_of<'a>(token: &Token<'a>) -> Option<&'a [u8]>
 }
 
 /// A name, which counts as so high.
-pub fn take_name<'a>(
-    alloc: Global,
-    height: u32,
-    tokens: &'a [Token<'a>],
-) -> Reading<'a, Identifier>
+pub fn take_name<'a>(alloc: Global, height: u32, tokens: &'a [Token<'a>]) -> Reading<'a, Identifier>
     ensures gives { Gives id result (one_token 1 height id_of (lexemes tokens.now)) }
     ensures high { IfOk result (λ x. x.height ≡ height) }
 {

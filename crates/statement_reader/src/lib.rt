@@ -4,3 +4,5 @@
 pub mod blocks;
 pub mod kinds;
 pub mod simple;
+#[cfg(test)]
+mod tests;

@@ -124,11 +124,7 @@ fn maybe_code<'a>(alloc: Global, room: u32, tokens: &'a [Token<'a>]) -> Reading<
 
 /// `return`
 #[tactic(auto, unfolding(ebnf::specs::Reading::read_rule), using(sides::proofs::Parts::rows))]
-pub fn return_statement<'a>(
-    alloc: Global,
-    room: u32,
-    tokens: &'a [Token<'a>],
-) -> Reading<'a, Stmt>
+pub fn return_statement<'a>(alloc: Global, room: u32, tokens: &'a [Token<'a>]) -> Reading<'a, Stmt>
     requires room { room < 1000 }
     ensures gives { Gives stm result (rule_at room (rows.return_ (λ x. x)) (lexemes tokens.now)) }
     ensures low { IfOk result (λ x. x.height ≤ room + 1) }
@@ -291,11 +287,7 @@ pub fn other<'a>(alloc: Global, room: u32, tokens: &'a [Token<'a>]) -> Reading<'
 
 /// The arguments behind a spawned function's name.
 #[tactic(auto, using(sides::proofs::Parts::rows, crate::proofs::Spawns::some_arguments, crate::proofs::Spawns::no_arguments))]
-fn spawn_arguments<'a>(
-    alloc: Global,
-    room: u32,
-    tokens: &'a [Token<'a>],
-) -> Reading<'a, Arguments>
+fn spawn_arguments<'a>(alloc: Global, room: u32, tokens: &'a [Token<'a>]) -> Reading<'a, Arguments>
     requires room { room < 1000 }
     ensures gives { Gives (λ x. (exps x.plain.items, exps x.ghosts.items)) result (part room rows.spawn_arguments (lexemes tokens.now)) }
     ensures low { IfOk result (λ x. x.height ≤ room) }
@@ -437,12 +429,7 @@ pub fn assertion<'a>(
 
 /// `_(wrap ..)` behind the `_(`.
 #[tactic(auto, using(sides::proofs::Parts::rows))]
-pub fn wrap<'a>(
-    alloc: Global,
-    span: Span,
-    room: u32,
-    tokens: &'a [Token<'a>],
-) -> Reading<'a, Stmt>
+pub fn wrap<'a>(alloc: Global, span: Span, room: u32, tokens: &'a [Token<'a>]) -> Reading<'a, Stmt>
     requires room { room < 1000 }
     ensures gives { Gives stm result (at_span span (part room rows.wrap_ (lexemes tokens.now))) }
     ensures low { IfOk result (λ x. x.height ≤ room) }

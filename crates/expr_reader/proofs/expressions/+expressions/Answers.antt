@@ -193,7 +193,7 @@ pub list-more-init : goal.list-more-init
 list-more-init t c = record {
   low = omega (arith, c.in_ok-first.ensures.low);
   same = ap (λ (xs : List Expr). listed c.args.room (whole c.args.mode c.args.tier) (exps xs) c.in_ok-first.first.height (lexemes c.in_ok-first.first.rest.now)) c.in_ok-single.ensures.ok
-    ∙ sym (whole_list c.args.mode c.args.tier c.args.room (lexemes c.args.tokens.now) ∙ ap (λ out. on language out (λ b i mid. listed c.args.room (whole c.args.mode c.args.tier) (b ∷ []) i mid)) c.in_ok-first.ensures.gives);
+      ∙ sym (whole_list c.args.mode c.args.tier c.args.room (lexemes c.args.tokens.now) ∙ ap (λ out. on language out (λ b i mid. listed c.args.room (whole c.args.mode c.args.tier) (b ∷ []) i mid)) c.in_ok-first.ensures.gives);
 }
 
 pub list-more-preserved : goal.list-more-preserved
