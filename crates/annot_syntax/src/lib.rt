@@ -1,6 +1,0 @@
-//! Ghost statements, and the annotations of code.
-#![tactic(auto)]
-
-pub mod ghost_places;
-pub mod ghost_rights;
-pub mod sets;
