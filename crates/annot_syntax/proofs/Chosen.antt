@@ -1,7 +1,7 @@
 -- Which alternative is meant, by the next token.
-use Rattle.std.proofs.Common.{◌≡◌, ◌≤◌, ◌+◌, ℕ, zero, suc, max, nat_le, Bool, true, false, cond, List, [], ◌∷◌, ◌++◌, Result, Ok, Err, refl, ap, sym, ◌∙◌, arith}
+use Rattle.std.proofs.Common.{◌≡◌, ◌≤◌, ◌+◌, ℕ, zero, suc, max, nat_le, Bool, true, false, cond, List, [], ◌∷◌, ◌++◌, None, Result, Ok, Err, refl, ap, sym, ◌∙◌, arith}
 use Rattle.std.specs.Prelude.{◌==◌, ◌||◌}
-use Rattle.ebnf.specs.Rules.{by_next, pick}
+use Rattle.ebnf.specs.Rules.{by_next, pick, nothing}
 use Rattle.ebnf.specs.Sets.{has, first, first_rule, low, low_rule, is_empty}
 use Rattle.ebnf.specs.Derives.{next}
 use Rattle.ebnf.specs.Tools.{true_le, le_true, true_not_false}
@@ -17,7 +17,7 @@ use Rattle.c_syntax.specs.Grammar.{P, R}
 use Rattle.expr_reader.specs.Reading.{part, rule_at}
 use Rattle.sides.proofs.Listed.{fits_zero}
 use Rattle.sides.proofs.Chosen.{first_of, other_of, none_of, entered_fits, entered_deep}
-use Rattle.annot_syntax.specs.Rows.{several, one, claim_right, value_right, becomes, joins, leaves}
+use Rattle.annot_syntax.specs.Rows.{several, one, claim_right, value_right, becomes, joins, leaves, some_value, first_value}
 
 module _ (room : ℕ) (ts : List Lexeme) where
   pub set_read : (next language ts == sign s.BraceOpen) ≡ true → part room g.members ts ≡ part room several ts
@@ -75,3 +75,17 @@ module _ (room : ℕ) (ts : List Lexeme) where
   pub no_change : (next language ts == sign s.Assign) ≡ false → (next language ts == sign s.AddAssign) ≡ false → (next language ts == sign s.SubtractAssign) ≡ false → part room g.owns_change ts ≡ Err (Unexpected, ts)
   unfolding first low is_empty
   no_change h a b = none_of becomes (by_next joins leaves) room ts (ap (λ b. b || false) h) (rw a (rw b refl)) refl
+
+  -- ---- first values
+
+  pub some_value_read : (next language ts == sign s.Assign) ≡ true → nat_le 1 room ≡ true → part room first_value ts ≡ part room some_value ts
+  unfolding first low is_empty
+  some_value_read h fits = first_of some_value (nothing None) room ts (ap (λ b. b || false) h) ∙ entered_fits some_value room ts fits
+
+  pub some_value_deep : (next language ts == sign s.Assign) ≡ true → nat_le 1 room ≡ false → part room first_value ts ≡ Err (TooDeep, ts)
+  unfolding first low is_empty
+  some_value_deep h fits = first_of some_value (nothing None) room ts (ap (λ b. b || false) h) ∙ entered_deep some_value room ts fits
+
+  pub no_value : (next language ts == sign s.Assign) ≡ false → part room first_value ts ≡ Ok (None, 0, ts)
+  unfolding read first low is_empty
+  no_value h = rw h (rw (fits_zero room) refl)

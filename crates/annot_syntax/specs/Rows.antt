@@ -1,6 +1,6 @@
 -- Rows of the grammar, as the reader goes through them.
-use Rattle.std.specs.Prelude.{ℕ, suc, max, ◌==◌, Bool, ◌&&◌, if◌then◌else◌, List, Ok, Err}
-use Rattle.ebnf.specs.Rules.{token, below, nothing, by_next, many, form}
+use Rattle.std.specs.Prelude.{ℕ, suc, max, ◌==◌, Bool, ◌&&◌, if◌then◌else◌, List, Option, Some, Ok, Err}
+use Rattle.ebnf.specs.Rules.{token, below, nothing, by_value, by_next, many, form}
 use Rattle.ebnf.specs.Derives.{next}
 use Rattle.ebnf.specs.Reading.{Out, on, reads, links}
 use Rattle.c_syntax.specs.declared.token.Span.{Span}
@@ -58,3 +58,34 @@ joins = word (sign s.AddAssign) ▷ g.members ▷ nothing (λ x o. (o, h.Join x)
 
 abbrev pub leaves : P (Span × OwnsEffect)
 leaves = word (sign s.SubtractAssign) ▷ g.members ▷ nothing (λ x o. (o, h.Leave x))
+
+-- ---- ghost statements that hold no others
+
+abbrev pub some_value : P (Option GhostRhs)
+some_value = g.ghost_first ▷ nothing (λ x. Some x)
+
+abbrev pub first_value : P (Option GhostRhs)
+first_value = g.optional g.ghost_first
+
+abbrev pub declared : R GStm
+declared = form (g.gtype ▷ name ▷ first_value ▷ g.semicolon_or_none ▷ nothing (λ z x n ty. h.Declare ty.0 ty.1 n x))
+
+-- a left side so high, and what is read behind it
+abbrev pub behind : ℕ → P (Exp → GStm) → Exp → ℕ → List Lexeme → Out language GStm
+behind room p l k ts = on language (part room p ts) (λ f i rest. Ok (f l, suc (max k i), rest))
+
+abbrev pub assigned : ℕ → Exp → ℕ → List Lexeme → Out language GStm
+assigned room l k ts = if g.is_owns l then behind room g.owns_set l k ts else behind room g.ghost_set l k ts
+
+abbrev pub assigned_name : R GStm
+assigned_name = form (by_value (below g.GhostName (λ x. x)) g.is_owns g.owns_set g.ghost_set)
+
+abbrev pub assigned_other : R GStm
+assigned_other = form (by_value (below g.GhostOther (λ x. x)) g.is_owns g.owns_set g.ghost_set)
+
+-- the claimed objects of `\destroy_claim`, up to its end
+abbrev pub destroyed_set : P (Exp → Span → Span → GStm)
+destroyed_set = word (sign s.Comma) ▷ g.set ▷ word (sign s.Close) ▷ g.semicolon_or_none ▷ nothing (λ z c xs m x o p. h.DestroyClaim p x xs)
+
+abbrev pub destroyed : R GStm
+destroyed = form (word (spec w.DestroyClaim) ▷ word (sign s.Open) ▷ g.code ▷ destroyed_set)

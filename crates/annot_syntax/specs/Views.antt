@@ -1,8 +1,16 @@
 -- What the values that are read stand for.
+use Rattle.std.proofs.Common.{Vec}
+use Rattle.std.specs.declared.alloc.Global.{Global}
+use Rattle.c_syntax.specs.declared.expressions.Expr.{Expr}
+use Rattle.c_syntax.specs.declared.ghosts.OwnsChange.{OwnsChange}
+use Rattle.c_syntax.specs.declared.ghosts.GhostRight.{GhostRight}
 use Rattle.c_syntax.specs.declared.token.Span.{Span}
 use Rattle.c_syntax.specs.Expressions as e
 use Rattle.c_syntax.specs.Expressions.{Exp}
-use Rattle.c_syntax.specs.Views.{id}
+use Rattle.c_syntax.specs.Ghosts as h
+use Rattle.c_syntax.specs.Ghosts.{GStm}
+use Rattle.c_syntax.specs.Grammar as g
+use Rattle.c_syntax.specs.Views.{id, exps, owns, ghost_rhs}
 use Rattle.annot_syntax.specs.declared.ghost_places.Suffix.{Suffix}
 use Rattle.annot_syntax.specs.declared.ghost_places.Suffix.TheVariants as s
 
@@ -14,3 +22,14 @@ suffix (s.Owns p) = λ o l. e.Owns o l p
 -- an arrow with what stands behind
 abbrev pub arrow : Span × Suffix → Exp → Exp
 arrow x = suffix x.1 x.0
+
+-- what stands behind an owned set, as what it makes of that
+abbrev pub owns_behind : Span × OwnsChange → Exp → GStm
+owns_behind x l = h.Owns (g.first_place l) l x.0 (owns x.1)
+
+abbrev pub set_behind : Span × GhostRight → Exp → GStm
+set_behind x l = h.Assign (g.first_place l) l x.0 (ghost_rhs x.1)
+
+-- claimed objects, as what they make of a claim and the places in front
+abbrev pub destroyed : Vec Expr Global → Exp → Span → Span → GStm
+destroyed v x o p = h.DestroyClaim p x (exps v.items)
