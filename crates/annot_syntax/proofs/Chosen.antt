@@ -17,7 +17,7 @@ use Rattle.c_syntax.specs.Grammar.{P, R}
 use Rattle.expr_reader.specs.Reading.{part, rule_at}
 use Rattle.sides.proofs.Listed.{fits_zero}
 use Rattle.sides.proofs.Chosen.{first_of, other_of, none_of, entered_fits, entered_deep}
-use Rattle.annot_syntax.specs.Rows.{several, one, claim_right, value_right, becomes, joins, leaves, some_value, first_value}
+use Rattle.annot_syntax.specs.Rows.{several, one, claim_right, value_right, becomes, joins, leaves, some_value, first_value, wrap_of, unwrap_of, some_else, else_or_none}
 
 module _ (room : ℕ) (ts : List Lexeme) where
   pub set_read : (next language ts == sign s.BraceOpen) ≡ true → part room g.members ts ≡ part room several ts
@@ -89,3 +89,37 @@ module _ (room : ℕ) (ts : List Lexeme) where
   pub no_value : (next language ts == sign s.Assign) ≡ false → part room first_value ts ≡ Ok (None, 0, ts)
   unfolding read first low is_empty
   no_value h = rw h (rw (fits_zero room) refl)
+
+  -- ---- wrapping, and `else`
+
+  pub wrap_read : (next language ts == key k.Wrap) ≡ true → nat_le 1 room ≡ true → part room g.ghost_wrap ts ≡ part room wrap_of ts
+  unfolding first low is_empty
+  wrap_read h fits = first_of wrap_of unwrap_of room ts (ap (λ b. b || false) h) ∙ entered_fits wrap_of room ts fits
+
+  pub wrap_deep : (next language ts == key k.Wrap) ≡ true → nat_le 1 room ≡ false → part room g.ghost_wrap ts ≡ Err (TooDeep, ts)
+  unfolding first low is_empty
+  wrap_deep h fits = first_of wrap_of unwrap_of room ts (ap (λ b. b || false) h) ∙ entered_deep wrap_of room ts fits
+
+  pub unwrap_read : (next language ts == key k.Wrap) ≡ false → (next language ts == key k.Unwrap) ≡ true → nat_le 1 room ≡ true → part room g.ghost_wrap ts ≡ part room unwrap_of ts
+  unfolding first low is_empty
+  unwrap_read h n fits = other_of wrap_of unwrap_of room ts (ap (λ b. b || false) h) (ap (λ b. b || false) n) ∙ entered_fits unwrap_of room ts fits
+
+  pub unwrap_deep : (next language ts == key k.Wrap) ≡ false → (next language ts == key k.Unwrap) ≡ true → nat_le 1 room ≡ false → part room g.ghost_wrap ts ≡ Err (TooDeep, ts)
+  unfolding first low is_empty
+  unwrap_deep h n fits = other_of wrap_of unwrap_of room ts (ap (λ b. b || false) h) (ap (λ b. b || false) n) ∙ entered_deep unwrap_of room ts fits
+
+  pub no_wrap : (next language ts == key k.Wrap) ≡ false → (next language ts == key k.Unwrap) ≡ false → part room g.ghost_wrap ts ≡ Err (Unexpected, ts)
+  unfolding first is_empty
+  no_wrap h n = none_of wrap_of unwrap_of room ts (ap (λ b. b || false) h) (ap (λ b. b || false) n) refl
+
+  pub else_read : (next language ts == key k.Else) ≡ true → nat_le 1 room ≡ true → part room else_or_none ts ≡ part room some_else ts
+  unfolding first low is_empty
+  else_read h fits = first_of some_else (nothing None) room ts (ap (λ b. b || false) h) ∙ entered_fits some_else room ts fits
+
+  pub else_deep : (next language ts == key k.Else) ≡ true → nat_le 1 room ≡ false → part room else_or_none ts ≡ Err (TooDeep, ts)
+  unfolding first low is_empty
+  else_deep h fits = first_of some_else (nothing None) room ts (ap (λ b. b || false) h) ∙ entered_deep some_else room ts fits
+
+  pub no_else : (next language ts == key k.Else) ≡ false → part room else_or_none ts ≡ Ok (None, 0, ts)
+  unfolding read first low is_empty
+  no_else h = rw h (rw (fits_zero room) refl)

@@ -1,3 +1,5 @@
 pub mod Chosen
 pub mod GhostLinks
 pub mod Assigns
+pub mod Statements
+pub mod Vectors

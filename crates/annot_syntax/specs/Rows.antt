@@ -89,3 +89,39 @@ destroyed_set = word (sign s.Comma) ▷ g.set ▷ word (sign s.Close) ▷ g.semi
 
 abbrev pub destroyed : R GStm
 destroyed = form (word (spec w.DestroyClaim) ▷ word (sign s.Open) ▷ g.code ▷ destroyed_set)
+
+abbrev pub wrap_of : P (Span → GStm)
+wrap_of = word (key k.Wrap) ▷ g.code ▷ nothing (λ x u p. h.Wrap p x)
+
+abbrev pub unwrap_of : P (Span → GStm)
+unwrap_of = word (key k.Unwrap) ▷ g.code ▷ nothing (λ x u p. h.Unwrap p x)
+
+abbrev pub wrapped : R GStm
+wrapped = form (word (sign s.Annotation) ▷ g.ghost_wrap ▷ word (sign s.Close) ▷ g.semicolon_or_none ▷ nothing (λ z c f p. f p))
+
+-- ---- ghost statements that hold others
+
+-- what isn't a name and begins a left side
+abbrev pub other : P Exp
+other = below g.GhostOther (λ x. x)
+
+abbrev pub statement : P GStm
+statement = below g.GhostStatement (λ x. x)
+
+abbrev pub statements : P (List GStm)
+statements = many statement (λ xs. xs)
+
+abbrev pub in_brackets : P Exp
+in_brackets = g.inside g.code
+
+abbrev pub some_else : P (Option GStm)
+some_else = g.ghost_else ▷ nothing (λ x. Some x)
+
+abbrev pub else_or_none : P (Option GStm)
+else_or_none = g.optional g.ghost_else
+
+abbrev pub if_rule : R GStm
+if_rule = form (word (key k.If) ▷ in_brackets ▷ below g.GhostBody (λ x. x) ▷ else_or_none ▷ g.semicolon_or_none ▷ nothing (λ z b a x p. g.ghost_if p x a b))
+
+abbrev pub block : R GStm
+block = form (word (sign s.BraceOpen) ▷ statements ▷ word (sign s.BraceClose) ▷ nothing (λ c xs o. h.Block o (g.ghosts_of xs)))

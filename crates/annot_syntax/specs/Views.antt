@@ -10,7 +10,9 @@ use Rattle.c_syntax.specs.Expressions.{Exp}
 use Rattle.c_syntax.specs.Ghosts as h
 use Rattle.c_syntax.specs.Ghosts.{GStm}
 use Rattle.c_syntax.specs.Grammar as g
-use Rattle.c_syntax.specs.Views.{id, exps, owns, ghost_rhs}
+use Rattle.c_syntax.specs.Views.{id, exp, exps, owns, ghost_rhs}
+use Rattle.annot_syntax.specs.declared.simple.Wrapping.{Wrapping}
+use Rattle.annot_syntax.specs.declared.simple.Wrapping.TheVariants as v
 use Rattle.annot_syntax.specs.declared.ghost_places.Suffix.{Suffix}
 use Rattle.annot_syntax.specs.declared.ghost_places.Suffix.TheVariants as s
 
@@ -33,3 +35,8 @@ set_behind x l = h.Assign (g.first_place l) l x.0 (ghost_rhs x.1)
 -- claimed objects, as what they make of a claim and the places in front
 abbrev pub destroyed : Vec Expr Global → Exp → Span → Span → GStm
 destroyed v x o p = h.DestroyClaim p x (exps v.items)
+
+-- an object that is wrapped or unwrapped, as what it makes of the place in front
+abbrev pub wrapping : Wrapping → Span → GStm
+wrapping (v.Wrap x) p = h.Wrap p (exp x)
+wrapping (v.Unwrap x) p = h.Unwrap p (exp x)

@@ -5,3 +5,4 @@ pub mod ghost_places;
 pub mod ghost_rights;
 pub mod sets;
 pub mod simple;
+pub mod ghosts;

@@ -295,3 +295,92 @@ pub fn destroyed<'a>(
         rest: all.rest,
     })
 }
+
+/// An object that is wrapped or unwrapped.
+#[derive(Drop)]
+pub enum Wrapping {
+    Wrap(Expr),
+    Unwrap(Expr),
+}
+
+/// `wrap` and an object.
+#[tactic(auto, unfolding(ebnf::specs::Reading::read))]
+fn wrap_of<'a>(alloc: Global, room: u32, tokens: &'a [Token<'a>]) -> Reading<'a, Wrapping>
+    requires room { room < 1000 }
+    ensures gives { Gives views.wrapping result (part room rows.wrap_of (lexemes tokens.now)) }
+    ensures low { IfOk result (λ x. x.height ≤ room) }
+{
+    let word = take_key(Keyword::Wrap, tokens)?;
+    let object = code(alloc, room, word.rest)?;
+    Ok(Parsed {
+        value: Wrapping::Wrap(object.value),
+        height: object.height,
+        rest: object.rest,
+    })
+}
+
+/// `unwrap` and an object.
+#[tactic(auto, unfolding(ebnf::specs::Reading::read))]
+fn unwrap_of<'a>(alloc: Global, room: u32, tokens: &'a [Token<'a>]) -> Reading<'a, Wrapping>
+    requires room { room < 1000 }
+    ensures gives { Gives views.wrapping result (part room rows.unwrap_of (lexemes tokens.now)) }
+    ensures low { IfOk result (λ x. x.height ≤ room) }
+{
+    let word = take_key(Keyword::Unwrap, tokens)?;
+    let object = code(alloc, room, word.rest)?;
+    Ok(Parsed {
+        value: Wrapping::Unwrap(object.value),
+        height: object.height,
+        rest: object.rest,
+    })
+}
+
+/// `wrap` or `unwrap`, and an object.
+#[tactic(auto, using(crate::proofs::Chosen::wrap_read, crate::proofs::Chosen::wrap_deep, crate::proofs::Chosen::unwrap_read, crate::proofs::Chosen::unwrap_deep, crate::proofs::Chosen::no_wrap))]
+fn wrap_or_unwrap<'a>(alloc: Global, room: u32, tokens: &'a [Token<'a>]) -> Reading<'a, Wrapping>
+    requires room { room < 1000 }
+    ensures gives { Gives views.wrapping result (part room g.ghost_wrap (lexemes tokens.now)) }
+    ensures low { IfOk result (λ x. x.height ≤ room) }
+{
+    if next_is_key(Keyword::Wrap, tokens) {
+        fits(1, room, tokens)?;
+        return wrap_of(alloc, room, tokens);
+    }
+    if !next_is_key(Keyword::Unwrap, tokens) {
+        return Err(ReadFault::Unexpected(tokens));
+    }
+    fits(1, room, tokens)?;
+    unwrap_of(alloc, room, tokens)
+}
+
+/// The statement that wraps or unwraps.
+fn placed(span: Span, wrapping: Wrapping) -> GhostStmt
+    ensures { ghost_of result ≡ views.wrapping wrapping span }
+{
+    match wrapping {
+        Wrapping::Wrap(object) => GhostStmt::Wrap(span, object),
+        Wrapping::Unwrap(object) => GhostStmt::Unwrap(span, object),
+    }
+}
+
+/// `_(wrap ..)` or `_(unwrap ..)`
+#[tactic(auto, unfolding(ebnf::specs::Reading::read_rule), using(sides::proofs::Parts::rows))]
+pub fn wrapped<'a>(
+    alloc: Global,
+    room: u32,
+    tokens: &'a [Token<'a>],
+) -> Reading<'a, GhostStmt>
+    requires room { room < 1000 }
+    ensures gives { Gives ghost_of result (rule_at room rows.wrapped (lexemes tokens.now)) }
+    ensures low { IfOk result (λ x. x.height ≤ room + 1) }
+{
+    let start = take(Sign::Annotation, tokens)?;
+    let found = wrap_or_unwrap(alloc, room, start.rest)?;
+    let end = take(Sign::Close, found.rest)?;
+    let last = semicolon_or_none(room, end.rest)?;
+    Ok(Parsed {
+        value: placed(start.value, found.value),
+        height: found.height + 1,
+        rest: last.rest,
+    })
+}
