@@ -3,3 +3,4 @@ pub mod GhostLinks
 pub mod Assigns
 pub mod Statements
 pub mod Vectors
+pub mod Listed

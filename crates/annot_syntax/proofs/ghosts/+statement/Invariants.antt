@@ -37,3 +37,12 @@ decreases-statement_rule l = 16 * l.room + 5
 
 abbrev pub decreases-body_rule : goal.decreases-body_rule
 decreases-body_rule l = 16 * l.room + 6
+
+abbrev pub invariant-statements-loop-alloc : goal.invariant-statements-loop-alloc
+invariant-statements-loop-alloc l = record {
+  low : l.found.height ≤ l.room;
+  same : going l.room rows.statement (λ xs. xs) (map ghost l.found.value.items) l.found.height (lexemes l.found.rest.now) ≡ part l.room rows.statements (lexemes l.fn.tokens);
+}
+
+abbrev pub decreases-statements-loop-alloc : goal.decreases-statements-loop-alloc
+decreases-statements-loop-alloc l = length l.found.rest.now
