@@ -14,6 +14,8 @@ use Rattle.c_syntax.specs.Expressions as e
 use Rattle.c_syntax.specs.Expressions.{Exp}
 use Rattle.c_syntax.specs.Ghosts as h
 use Rattle.c_syntax.specs.Ghosts.{Members, OwnsEffect, GhostRhs, GStm}
+use Rattle.c_syntax.specs.Statements as st
+use Rattle.c_syntax.specs.Statements.{Inv, Stm}
 use Rattle.c_syntax.specs.Grammar as g
 use Rattle.c_syntax.specs.Grammar.{P, R, ◌▷◌, word, name}
 use Rattle.expr_reader.specs.Reading.{part}
@@ -125,3 +127,20 @@ if_rule = form (word (key k.If) ▷ in_brackets ▷ below g.GhostBody (λ x. x) 
 
 abbrev pub block : R GStm
 block = form (word (sign s.BraceOpen) ▷ statements ▷ word (sign s.BraceClose) ▷ nothing (λ c xs o. h.Block o (g.ghosts_of xs)))
+
+-- ---- annotations that hold no statement of code, behind their `_(`
+
+abbrev pub assert_behind : P (Span → Stm)
+assert_behind = word (key k.Assert) ▷ g.whole_spec ▷ word (sign s.Close) ▷ nothing (λ c x q p. st.Assert p x)
+
+abbrev pub ghost_behind : P (Span → Stm)
+ghost_behind = word (key k.Ghost) ▷ below g.GhostBody (λ x. x) ▷ word (sign s.Close) ▷ nothing (λ c x q p. st.Ghost p x)
+
+abbrev pub wrap_behind : P (Span → Stm)
+wrap_behind = word (key k.Wrap) ▷ g.code ▷ word (sign s.Close) ▷ nothing (λ c x q p. st.Wrap p x)
+
+abbrev pub unwrap_behind : P (Span → Stm)
+unwrap_behind = word (key k.Unwrap) ▷ g.code ▷ word (sign s.Close) ▷ nothing (λ c x q p. st.Unwrap p x)
+
+abbrev pub invariant_behind : P (Span → Inv)
+invariant_behind = g.invariant_behind

@@ -4,13 +4,16 @@ use Rattle.std.specs.declared.alloc.Global.{Global}
 use Rattle.c_syntax.specs.declared.expressions.Expr.{Expr}
 use Rattle.c_syntax.specs.declared.ghosts.OwnsChange.{OwnsChange}
 use Rattle.c_syntax.specs.declared.ghosts.GhostRight.{GhostRight}
+use Rattle.c_syntax.specs.declared.ghosts.GhostStmt.{GhostStmt}
 use Rattle.c_syntax.specs.declared.token.Span.{Span}
 use Rattle.c_syntax.specs.Expressions as e
 use Rattle.c_syntax.specs.Expressions.{Exp}
 use Rattle.c_syntax.specs.Ghosts as h
 use Rattle.c_syntax.specs.Ghosts.{GStm}
+use Rattle.c_syntax.specs.Statements as st
+use Rattle.c_syntax.specs.Statements.{Inv, Stm}
 use Rattle.c_syntax.specs.Grammar as g
-use Rattle.c_syntax.specs.Views.{id, exp, exps, owns, ghost_rhs}
+use Rattle.c_syntax.specs.Views.{id, exp, exps, owns, ghost_rhs, ghost}
 use Rattle.annot_syntax.specs.declared.simple.Wrapping.{Wrapping}
 use Rattle.annot_syntax.specs.declared.simple.Wrapping.TheVariants as v
 use Rattle.annot_syntax.specs.declared.ghost_places.Suffix.{Suffix}
@@ -40,3 +43,19 @@ destroyed v x o p = h.DestroyClaim p x (exps v.items)
 abbrev pub wrapping : Wrapping → Span → GStm
 wrapping (v.Wrap x) p = h.Wrap p (exp x)
 wrapping (v.Unwrap x) p = h.Unwrap p (exp x)
+
+-- what stands behind `_(`, as what it makes of the place of that sign
+abbrev pub asserted : Expr → Span → Stm
+asserted x p = st.Assert p (exp x)
+
+abbrev pub ghostly : GhostStmt → Span → Stm
+ghostly x p = st.Ghost p (ghost x)
+
+abbrev pub wrapped : Expr → Span → Stm
+wrapped x p = st.Wrap p (exp x)
+
+abbrev pub unwrapped : Expr → Span → Stm
+unwrapped x p = st.Unwrap p (exp x)
+
+abbrev pub kept : Expr → Span → Inv
+kept x p = record { place = p; property = exp x }

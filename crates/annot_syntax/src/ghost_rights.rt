@@ -31,11 +31,7 @@ pub fn property<'a>(alloc: Global, room: u32, tokens: &'a [Token<'a>]) -> Readin
 
 /// `\make_claim`, one level of height down.
 #[tactic(auto, unfolding(ebnf::specs::Reading::read_rule), using(sides::proofs::Parts::rows))]
-fn claim_rule<'a>(
-    alloc: Global,
-    room: u32,
-    tokens: &'a [Token<'a>],
-) -> Reading<'a, GhostRight>
+fn claim_rule<'a>(alloc: Global, room: u32, tokens: &'a [Token<'a>]) -> Reading<'a, GhostRight>
     requires room { room < 1000 }
     ensures gives { Gives rhs_of result (rule_at room g.make_claim (lexemes tokens.now)) }
     ensures low { IfOk result (λ x. x.height ≤ room + 1) }
@@ -56,11 +52,7 @@ fn claim_rule<'a>(
 
 /// `\make_claim` with the claimed objects and the property.
 #[tactic(auto, unfolding(ebnf::specs::Reading::reads))]
-fn make_claim<'a>(
-    alloc: Global,
-    room: u32,
-    tokens: &'a [Token<'a>],
-) -> Reading<'a, GhostRight>
+fn make_claim<'a>(alloc: Global, room: u32, tokens: &'a [Token<'a>]) -> Reading<'a, GhostRight>
     requires room { room < 1000 }
     ensures gives { Gives rhs_of result (reads language room g.MakeClaim (lexemes tokens.now)) }
     ensures low { IfOk result (λ x. x.height ≤ room) }
@@ -73,11 +65,7 @@ fn make_claim<'a>(
 
 /// A claim as a right side.
 #[tactic(auto, unfolding(ebnf::specs::Reading::read))]
-fn claim_right<'a>(
-    alloc: Global,
-    room: u32,
-    tokens: &'a [Token<'a>],
-) -> Reading<'a, GhostRight>
+fn claim_right<'a>(alloc: Global, room: u32, tokens: &'a [Token<'a>]) -> Reading<'a, GhostRight>
     requires room { room < 1000 }
     ensures gives { Gives rhs_of result (part room rows.claim_right (lexemes tokens.now)) }
     ensures low { IfOk result (λ x. x.height ≤ room) }
@@ -88,11 +76,7 @@ fn claim_right<'a>(
 
 /// An expression as a right side.
 #[tactic(auto, unfolding(ebnf::specs::Reading::read))]
-fn value_right<'a>(
-    alloc: Global,
-    room: u32,
-    tokens: &'a [Token<'a>],
-) -> Reading<'a, GhostRight>
+fn value_right<'a>(alloc: Global, room: u32, tokens: &'a [Token<'a>]) -> Reading<'a, GhostRight>
     requires room { room < 1000 }
     ensures gives { Gives rhs_of result (part room rows.value_right (lexemes tokens.now)) }
     ensures low { IfOk result (λ x. x.height ≤ room) }
@@ -107,11 +91,7 @@ fn value_right<'a>(
 
 /// What stands right of `=` in ghost code.
 #[tactic(auto, using(crate::proofs::Chosen::claim_read, crate::proofs::Chosen::claim_deep, crate::proofs::Chosen::value_read, crate::proofs::Chosen::value_deep, crate::proofs::Chosen::no_right))]
-pub fn ghost_rhs<'a>(
-    alloc: Global,
-    room: u32,
-    tokens: &'a [Token<'a>],
-) -> Reading<'a, GhostRight>
+pub fn ghost_rhs<'a>(alloc: Global, room: u32, tokens: &'a [Token<'a>]) -> Reading<'a, GhostRight>
     requires room { room < 1000 }
     ensures gives { Gives rhs_of result (part room g.ghost_rhs (lexemes tokens.now)) }
     ensures low { IfOk result (λ x. x.height ≤ room) }
@@ -150,11 +130,7 @@ pub fn semicolon_or_none<'a>(room: u32, tokens: &'a [Token<'a>]) -> Reading<'a, 
 
 /// `=` and a set.
 #[tactic(auto, using(sides::proofs::Parts::rows))]
-fn becomes<'a>(
-    alloc: Global,
-    room: u32,
-    tokens: &'a [Token<'a>],
-) -> Reading<'a, (Span, OwnsChange)>
+fn becomes<'a>(alloc: Global, room: u32, tokens: &'a [Token<'a>]) -> Reading<'a, (Span, OwnsChange)>
     requires room { room < 1000 }
     ensures gives { Gives (λ x. (x.0, owns x.1)) result (part room rows.becomes (lexemes tokens.now)) }
     ensures low { IfOk result (λ x. x.height ≤ room) }
@@ -170,11 +146,7 @@ fn becomes<'a>(
 
 /// `+=` and what is added.
 #[tactic(auto, using(sides::proofs::Parts::rows))]
-fn joins<'a>(
-    alloc: Global,
-    room: u32,
-    tokens: &'a [Token<'a>],
-) -> Reading<'a, (Span, OwnsChange)>
+fn joins<'a>(alloc: Global, room: u32, tokens: &'a [Token<'a>]) -> Reading<'a, (Span, OwnsChange)>
     requires room { room < 1000 }
     ensures gives { Gives (λ x. (x.0, owns x.1)) result (part room rows.joins (lexemes tokens.now)) }
     ensures low { IfOk result (λ x. x.height ≤ room) }
@@ -190,11 +162,7 @@ fn joins<'a>(
 
 /// `-=` and what is taken away.
 #[tactic(auto, using(sides::proofs::Parts::rows))]
-fn leaves<'a>(
-    alloc: Global,
-    room: u32,
-    tokens: &'a [Token<'a>],
-) -> Reading<'a, (Span, OwnsChange)>
+fn leaves<'a>(alloc: Global, room: u32, tokens: &'a [Token<'a>]) -> Reading<'a, (Span, OwnsChange)>
     requires room { room < 1000 }
     ensures gives { Gives (λ x. (x.0, owns x.1)) result (part room rows.leaves (lexemes tokens.now)) }
     ensures low { IfOk result (λ x. x.height ≤ room) }

@@ -162,13 +162,7 @@ fn if_rule<'a>(alloc: Global, room: u32, tokens: &'a [Token<'a>]) -> Reading<'a,
     let other = else_or_none(alloc, room, then.rest)?;
     let end = semicolon_or_none(room, other.rest)?;
     let height = condition.height.max(then.height).max(other.height) + 1;
-    let value = if_of(
-        alloc,
-        word.value,
-        condition.value,
-        then.value,
-        other.value,
-    )?;
+    let value = if_of(alloc, word.value, condition.value, then.value, other.value)?;
     Ok(Parsed {
         value,
         height,
@@ -208,11 +202,7 @@ fn chosen<'a>(alloc: Global, room: u32, tokens: &'a [Token<'a>]) -> Reading<'a, 
 /// A ghost statement, one level of height down.
 #[cycle(statement)]
 #[tactic(auto, using(crate::proofs::Statements::none_read, crate::proofs::Statements::deep_read))]
-fn statement_rule<'a>(
-    alloc: Global,
-    room: u32,
-    tokens: &'a [Token<'a>],
-) -> Reading<'a, GhostStmt>
+fn statement_rule<'a>(alloc: Global, room: u32, tokens: &'a [Token<'a>]) -> Reading<'a, GhostStmt>
     requires room { room < 1000 }
     ensures gives { Gives ghost_of result (rule_at room g.ghost_statement (lexemes tokens.now)) }
     ensures low { IfOk result (λ x. x.height ≤ room + 1) }
@@ -269,11 +259,7 @@ fn add_statement<'a>(
 
 /// Ghost statements, as many as there are.
 #[cycle(statement)]
-fn statements<'a>(
-    alloc: Global,
-    room: u32,
-    tokens: &'a [Token<'a>],
-) -> Reading<'a, Vec<GhostStmt>>
+fn statements<'a>(alloc: Global, room: u32, tokens: &'a [Token<'a>]) -> Reading<'a, Vec<GhostStmt>>
     requires room { room < 1000 }
     ensures gives { Gives (λ v. map ghost_of v.items) result (part room rows.statements (lexemes tokens.now)) }
     ensures low { IfOk result (λ x. x.height ≤ room) }
@@ -324,11 +310,7 @@ fn body_rule<'a>(alloc: Global, room: u32, tokens: &'a [Token<'a>]) -> Reading<'
 /// A ghost statement or a block of them.
 #[cycle(statement)]
 #[tactic(auto, unfolding(ebnf::specs::Reading::reads))]
-pub fn ghost_body<'a>(
-    alloc: Global,
-    room: u32,
-    tokens: &'a [Token<'a>],
-) -> Reading<'a, GhostStmt>
+pub fn ghost_body<'a>(alloc: Global, room: u32, tokens: &'a [Token<'a>]) -> Reading<'a, GhostStmt>
     requires room { room < 1000 }
     ensures gives { Gives ghost_of result (reads language room g.GhostBody (lexemes tokens.now)) }
     ensures low { IfOk result (λ x. x.height ≤ room) }

@@ -46,11 +46,7 @@ pub fn first_place(value: &Expr) -> Span
 
 /// `=` and a right side.
 #[tactic(auto, using(sides::proofs::Parts::rows))]
-fn first_right<'a>(
-    alloc: Global,
-    room: u32,
-    tokens: &'a [Token<'a>],
-) -> Reading<'a, GhostRight>
+fn first_right<'a>(alloc: Global, room: u32, tokens: &'a [Token<'a>]) -> Reading<'a, GhostRight>
     requires room { room < 1000 }
     ensures gives { Gives rhs_of result (part room g.ghost_first (lexemes tokens.now)) }
     ensures low { IfOk result (λ x. x.height ≤ room) }
@@ -107,11 +103,7 @@ fn first_value<'a>(
 
 /// A ghost variable.
 #[tactic(auto, unfolding(ebnf::specs::Reading::read_rule), using(sides::proofs::Parts::rows))]
-pub fn declared<'a>(
-    alloc: Global,
-    room: u32,
-    tokens: &'a [Token<'a>],
-) -> Reading<'a, GhostStmt>
+pub fn declared<'a>(alloc: Global, room: u32, tokens: &'a [Token<'a>]) -> Reading<'a, GhostStmt>
     requires room { room < 1000 }
     requires enough { 1 ≤ room }
     ensures gives { Gives ghost_of result (rule_at room rows.declared (lexemes tokens.now)) }
@@ -253,11 +245,7 @@ pub fn assigned_other<'a>(
 
 /// The claimed objects of `\destroy_claim`, up to its end.
 #[tactic(auto, using(sides::proofs::Parts::rows))]
-fn destroyed_set<'a>(
-    alloc: Global,
-    room: u32,
-    tokens: &'a [Token<'a>],
-) -> Reading<'a, Vec<Expr>>
+fn destroyed_set<'a>(alloc: Global, room: u32, tokens: &'a [Token<'a>]) -> Reading<'a, Vec<Expr>>
     requires room { room < 1000 }
     ensures gives { Gives views.destroyed result (part room rows.destroyed_set (lexemes tokens.now)) }
     ensures low { IfOk result (λ x. x.height ≤ room) }
@@ -275,11 +263,7 @@ fn destroyed_set<'a>(
 
 /// `\destroy_claim`
 #[tactic(auto, unfolding(ebnf::specs::Reading::read_rule), using(sides::proofs::Parts::rows))]
-pub fn destroyed<'a>(
-    alloc: Global,
-    room: u32,
-    tokens: &'a [Token<'a>],
-) -> Reading<'a, GhostStmt>
+pub fn destroyed<'a>(alloc: Global, room: u32, tokens: &'a [Token<'a>]) -> Reading<'a, GhostStmt>
     requires room { room < 1000 }
     ensures gives { Gives ghost_of result (rule_at room rows.destroyed (lexemes tokens.now)) }
     ensures low { IfOk result (λ x. x.height ≤ room + 1) }
@@ -365,11 +349,7 @@ fn placed(span: Span, wrapping: Wrapping) -> GhostStmt
 
 /// `_(wrap ..)` or `_(unwrap ..)`
 #[tactic(auto, unfolding(ebnf::specs::Reading::read_rule), using(sides::proofs::Parts::rows))]
-pub fn wrapped<'a>(
-    alloc: Global,
-    room: u32,
-    tokens: &'a [Token<'a>],
-) -> Reading<'a, GhostStmt>
+pub fn wrapped<'a>(alloc: Global, room: u32, tokens: &'a [Token<'a>]) -> Reading<'a, GhostStmt>
     requires room { room < 1000 }
     ensures gives { Gives ghost_of result (rule_at room rows.wrapped (lexemes tokens.now)) }
     ensures low { IfOk result (λ x. x.height ≤ room + 1) }
