@@ -71,7 +71,7 @@ module _ (room : ℕ) where
       go (Err f) = refl
   assigning (Err f) = refl
 
-fits_up : (n room : ℕ) (b : Bool) → nat_le n room ≡ b → nat_le (suc n) (suc room) ≡ b
+pub fits_up : (n room : ℕ) (b : Bool) → nat_le n room ≡ b → nat_le (suc n) (suc room) ≡ b
 fits_up n room true h = let e : n ≤ room = le_true n room h in true_le (suc n) (suc room) (omega arith)
 fits_up n room false h = go (nat_le (suc n) (suc room)) refl
   where

@@ -8,3 +8,5 @@ pub mod calls;
 pub mod interlocked;
 pub mod places;
 pub mod rights;
+#[cfg(test)]
+mod tests;

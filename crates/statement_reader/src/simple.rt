@@ -12,11 +12,10 @@ ghost use Rattle.expr_reader.specs.Reading.{Gives, lexemes, part, rule_at};
 ghost use Rattle.statement_reader.specs.Rows as rows;
 ghost use Rattle.statement_reader.specs.Rows.{at_span};
 
+use annot_syntax::simple::first_place;
 use c_syntax::expressions::{Assignment, Call, Expr, Identifier, Right};
-use c_syntax::statements::{Invariant, Stmt};
-use c_syntax::token::{Keyword, Sign, Span, Token};
-use expr_reader::expressions::expression;
-use expr_reader::levels::{Mode, Tier};
+use c_syntax::statements::Stmt;
+use c_syntax::token::{Keyword, Sign, Token};
 use expr_reader::reading::{Parsed, ReadFault, Reading, fits};
 use expr_reader::tokens::{next_is, take, take_key, take_name};
 use expr_reader::types::ctype;
@@ -171,29 +170,6 @@ pub fn free_statement<'a>(alloc: Global, room: u32, tokens: &'a [Token<'a>]) -> 
         height: object.height + 1,
         rest: end.rest,
     })
-}
-
-/// The place of the first token of an expression.
-fn first_place(expression: &Expr) -> Span
-    ensures { result ≡ g.first_place (exp expression.now) }
-{
-    match expression {
-        Expr::Name(name) => name.span,
-        Expr::Field(_, left, _) | Expr::Status(_, left, _, _) | Expr::Owns(_, left, _) => {
-            first_place(left)
-        }
-        Expr::Binary(_, _, left, _) | Expr::Conditional(_, left, _, _) => first_place(left),
-        Expr::Number(span, _, _)
-        | Expr::Null(span)
-        | Expr::Constant(span, _)
-        | Expr::Group(span, _)
-        | Expr::Unary(span, _, _)
-        | Expr::Apply(span, _, _)
-        | Expr::Mine(span, _)
-        | Expr::ClaimsObject(span, _, _)
-        | Expr::Claims(span, _, _)
-        | Expr::Quantified(span, _, _, _, _) => *span,
-    }
 }
 
 /// What stands behind a left side, up to the `;`.
@@ -403,90 +379,4 @@ pub fn named<'a>(alloc: Global, room: u32, tokens: &'a [Token<'a>]) -> Reading<'
             },
         ),
     }
-}
-
-/// `_(assert ..)` behind the `_(`, whose place is this.
-#[tactic(auto, using(sides::proofs::Parts::rows))]
-pub fn assertion<'a>(
-    alloc: Global,
-    span: Span,
-    room: u32,
-    tokens: &'a [Token<'a>],
-) -> Reading<'a, Stmt>
-    requires room { room < 1000 }
-    ensures gives { Gives stm result (at_span span (part room rows.assert_ (lexemes tokens.now))) }
-    ensures low { IfOk result (λ x. x.height ≤ room) }
-{
-    let word = take_key(Keyword::Assert, tokens)?;
-    let property = expression(alloc, Mode::Spec, Tier::Equivalence, room, word.rest)?;
-    let close = take(Sign::Close, property.rest)?;
-    Ok(Parsed {
-        value: Stmt::Assert(span, property.value),
-        height: property.height,
-        rest: close.rest,
-    })
-}
-
-/// `_(wrap ..)` behind the `_(`.
-#[tactic(auto, using(sides::proofs::Parts::rows))]
-pub fn wrap<'a>(alloc: Global, span: Span, room: u32, tokens: &'a [Token<'a>]) -> Reading<'a, Stmt>
-    requires room { room < 1000 }
-    ensures gives { Gives stm result (at_span span (part room rows.wrap_ (lexemes tokens.now))) }
-    ensures low { IfOk result (λ x. x.height ≤ room) }
-{
-    let word = take_key(Keyword::Wrap, tokens)?;
-    let object = code(alloc, room, word.rest)?;
-    let close = take(Sign::Close, object.rest)?;
-    Ok(Parsed {
-        value: Stmt::Wrap(span, object.value),
-        height: object.height,
-        rest: close.rest,
-    })
-}
-
-/// `_(unwrap ..)` behind the `_(`.
-#[tactic(auto, using(sides::proofs::Parts::rows))]
-pub fn unwrap_statement<'a>(
-    alloc: Global,
-    span: Span,
-    room: u32,
-    tokens: &'a [Token<'a>],
-) -> Reading<'a, Stmt>
-    requires room { room < 1000 }
-    ensures gives { Gives stm result (at_span span (part room rows.unwrap (lexemes tokens.now))) }
-    ensures low { IfOk result (λ x. x.height ≤ room) }
-{
-    let word = take_key(Keyword::Unwrap, tokens)?;
-    let object = code(alloc, room, word.rest)?;
-    let close = take(Sign::Close, object.rest)?;
-    Ok(Parsed {
-        value: Stmt::Unwrap(span, object.value),
-        height: object.height,
-        rest: close.rest,
-    })
-}
-
-/// `invariant ..` behind the `_(`.
-#[tactic(auto, using(sides::proofs::Parts::rows))]
-pub fn invariant<'a>(
-    alloc: Global,
-    span: Span,
-    room: u32,
-    tokens: &'a [Token<'a>],
-) -> Reading<'a, Invariant>
-    requires room { room < 1000 }
-    ensures gives { Gives views.invariant result (at_span span (part room g.invariant_behind (lexemes tokens.now))) }
-    ensures low { IfOk result (λ x. x.height ≤ room) }
-{
-    let word = take_key(Keyword::Invariant, tokens)?;
-    let property = expression(alloc, Mode::Spec, Tier::Equivalence, room, word.rest)?;
-    let close = take(Sign::Close, property.rest)?;
-    Ok(Parsed {
-        value: Invariant {
-            span,
-            property: property.value,
-        },
-        height: property.height,
-        rest: close.rest,
-    })
 }
