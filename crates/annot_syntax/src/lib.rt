@@ -7,5 +7,3 @@ pub mod ghost_rights;
 pub mod ghosts;
 pub mod sets;
 pub mod simple;
-#[cfg(test)]
-mod tests;

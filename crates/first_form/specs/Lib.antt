@@ -1,4 +1,1 @@
 pub mod Tree
-pub mod Tokens
-pub mod Grammar
-pub mod Reads

@@ -1,6 +1,6 @@
 -- Programs without where they lie in memory.
-use Rattle.std.specs.Prelude.{ℕ, suc, ◌+◌, max, List, [], ◌∷◌, map}
-use Rattle.first_form.specs.declared.token.Span.{Span}
+use Rattle.std.specs.Prelude.{ℕ, suc, ◌+◌, List, [], ◌∷◌, map}
+use Rattle.c_syntax.specs.declared.token.Span.{Span}
 use Rattle.first_form.specs.declared.tree.Operand.{Operand}
 use Rattle.first_form.specs.declared.tree.Comparison.{Comparison}
 use Rattle.first_form.specs.declared.tree.Test as t
@@ -39,34 +39,7 @@ pub record Prog : Type 0 where
   pub body : Stms
   pub end : Span
 
--- ---- heights and counts
-
--- A name or number has height 1; brackets and an operator add 1 to the greatest of their parts.
-abbrev pub height : BoolExp → ℕ
-height (Compare c a b) = 2
-height (Not e) = suc (suc (height e))
-height (Group e) = suc (height e)
-height (And a b) = suc (max (height a) (height b))
-height (Or a b) = suc (max (height a) (height b))
-
--- A statement adds 1 to the greatest of its parts, and so does a block.
-abbrev mutual
-  pub stm_height : Stm → ℕ
-  stm_height (Assert s e) = suc (height e)
-  stm_height (If s e a b) = suc (max (height e) (max (suc (stms_height a)) (suc (stms_height b))))
-
-  pub stms_height : Stms → ℕ
-  stms_height Empty = 0
-  stms_height (More a all) = max (stm_height a) (stms_height all)
-
--- a clause adds 1
-abbrev pub clauses_height : List Clause → ℕ
-clauses_height [] = 0
-clauses_height (c ∷ cs) = max (suc (height c.test)) (clauses_height cs)
-
--- so does the function
-abbrev pub prog_height : Prog → ℕ
-prog_height p = suc (max (clauses_height p.preconditions) (suc (stms_height p.body)))
+-- ---- counts
 
 -- how many statements there are, at every depth
 abbrev mutual

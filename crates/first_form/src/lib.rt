@@ -1,6 +1,4 @@
-//! Sources: tokens, the grammar, and the program that a source is.
+//! The programs that are judged so far: one function without objects.
 #![tactic(auto)]
 
-pub mod fault;
-pub mod token;
 pub mod tree;

@@ -1,6 +1,6 @@
 //! Programs.
 
-use crate::token::Span;
+use c_syntax::token::Span;
 
 /// A value in a test: a parameter, by its number in the order of the text from 0, or a decimal number.
 #[derive(Clone, Copy, Debug, PartialEq, Eq)]

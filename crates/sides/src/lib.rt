@@ -8,5 +8,3 @@ pub mod calls;
 pub mod interlocked;
 pub mod places;
 pub mod rights;
-#[cfg(test)]
-mod tests;

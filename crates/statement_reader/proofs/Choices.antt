@@ -1,10 +1,10 @@
 -- Which statement is meant, by the next token.
-use Rattle.std.proofs.Common.{◌≡◌, ◌≢◌, ◌⊎◌, inl, inr, ⊎_elim, ℕ, zero, suc, ◌+◌, ◌<◌, ◌≤◌, max, nat_le, Bool, true, false, cond, List, [], ◌∷◌, ◌++◌, map, Result, Ok, Err, refl, ap, sym, ◌∙◌, subst, arith}
-use Rattle.std.specs.Prelude.{◌==◌, ◌||◌}
+use Rattle.std.proofs.Common.{◌≡◌, ⊎_elim, ℕ, suc, ◌≤◌, nat_le, Bool, true, false, cond, List, [], ◌∷◌, ◌++◌, Err, refl, arith}
+use Rattle.std.specs.Prelude.{◌==◌}
 use Rattle.ebnf.specs.Rules.{pick}
-use Rattle.ebnf.specs.Sets.{has, first, first_rule, low, low_rule, is_empty, RuleOf}
+use Rattle.ebnf.specs.Sets.{has, first, first_rule, low, low_rule, is_empty}
 use Rattle.ebnf.specs.Derives.{next}
-use Rattle.ebnf.specs.Reading.{Out, Unexpected, TooDeep, enter, read, read_rule, reads}
+use Rattle.ebnf.specs.Reading.{Out, Unexpected, TooDeep, read_rule}
 use Rattle.ebnf.specs.Tools.{true_not_false, or_cases, eq_true, le_true, true_le, has_either}
 use Rattle.c_syntax.specs.declared.token.Keyword.TheVariants as k
 use Rattle.c_syntax.specs.declared.token.Sign.TheVariants as s
@@ -27,14 +27,14 @@ fits_suc n room false h = go (nat_le (suc n) (suc room)) refl
     go true e = let a : suc n ≤ suc room = le_true (suc n) (suc room) e in absurd (true_not_false _ (true_le n room (omega arith)) h)
     go false e = refl
 
-abbrev every_kind : List Kind
+abbrev pub every_kind : List Kind
 every_kind = kinds.Block ∷ kinds.Skip ∷ kinds.Declaration ∷ kinds.Named ∷ kinds.Other ∷ kinds.Branch ∷ kinds.While ∷ kinds.Do ∷ kinds.For ∷ kinds.Return ∷ kinds.Spawn ∷ kinds.Free ∷ []
 
-abbrev all_begins : List Kind → List ℕ
+abbrev pub all_begins : List Kind → List ℕ
 all_begins [] = []
 all_begins (x ∷ xs) = kind_begins x ++ all_begins xs
 
-none_begins : (xs : List Kind) (c : ℕ) → ((x : Kind) → has (kind_begins x) c ≡ false) → has (all_begins xs) c ≡ true → ⊥
+pub none_begins : (xs : List Kind) (c : ℕ) → ((x : Kind) → has (kind_begins x) c ≡ false) → has (all_begins xs) c ≡ true → ⊥
 none_begins [] c none h = true_not_false _ h refl
 none_begins (x ∷ xs) c none h = ⊎_elim (λ e. true_not_false _ e (none x)) (none_begins xs c none) (has_either (kind_begins x) (all_begins xs) c h)
 
@@ -155,7 +155,7 @@ module _ {A : Type 0} (wrap : Stm → A) where
   pub kind_high : (x : Kind) (room : ℕ) (ts : List Lexeme) → nat_le (kind_low x) room ≡ false → has (kind_begins x) (next language ts) ≡ true → rule_at room (g.simple wrap) ts ≡ Err (TooDeep, ts)
   kind_high x room ts h m = meant x room ts false h m
 
-  none_read : (room : ℕ) (ts : List Lexeme) → has (first_rule language (all wrap)) (next language ts) ≡ false → rule_at room (all wrap) ts ≡ Err (Unexpected, ts)
+  pub none_read : (room : ℕ) (ts : List Lexeme) → has (first_rule language (all wrap)) (next language ts) ≡ false → rule_at room (all wrap) ts ≡ Err (Unexpected, ts)
   none_read room ts h = pick_none (block wrap) (pick (skip wrap) (pick (declaration wrap) (pick (named wrap) (pick (other wrap) (pick (branch wrap) (pick (pick (while_loop wrap) (pick (do_loop wrap) (for_loop wrap))) (pick (return_ wrap) (pick (spawn wrap) (free wrap))))))))) room ts h
 
   abbrev firsts : List ℕ

@@ -2,3 +2,8 @@ pub mod Choices
 pub mod Options
 pub mod Spawns
 pub mod Names
+pub mod Vectors
+pub mod Picks
+pub mod Alike
+pub mod Forms
+pub mod Bodies

@@ -1,5 +1,5 @@
 -- Parts that may be left out.
-use Rattle.std.proofs.Common.{◌≡◌, ℕ, nat_le, Bool, true, false, List, Option, Some, None, Result, Ok, Err, refl, ap, sym, ◌∙◌, max, arith}
+use Rattle.std.proofs.Common.{◌≡◌, ℕ, nat_le, Bool, true, false, List, Option, Some, None, Ok, Err, refl, ap, ◌∙◌, max, arith}
 use Rattle.std.specs.Prelude.{◌==◌, ◌||◌}
 use Rattle.ebnf.specs.Rules.{below, nothing}
 use Rattle.ebnf.specs.Sets.{has, first, low, is_empty}
@@ -9,7 +9,7 @@ use Rattle.c_syntax.specs.declared.token.Sign.TheVariants as s
 use Rattle.c_syntax.specs.Classes.{key, sign}
 use Rattle.c_syntax.specs.Lexing.{Lexeme}
 use Rattle.c_syntax.specs.declared.token.Keyword.TheVariants as k
-use Rattle.c_syntax.specs.Expressions.{Exp, Assignment}
+use Rattle.c_syntax.specs.Expressions.{Assignment}
 use Rattle.c_syntax.specs.Language.{language}
 use Rattle.c_syntax.specs.Grammar as g
 use Rattle.c_syntax.specs.Grammar.{P, ◌▷◌}

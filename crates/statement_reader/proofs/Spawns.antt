@@ -1,10 +1,10 @@
 -- The arguments of a spawned function.
-use Rattle.std.proofs.Common.{◌≡◌, ℕ, nat_le, Bool, true, false, List, [], Result, Ok, Err, refl, ap, sym, ◌∙◌}
+use Rattle.std.proofs.Common.{◌≡◌, ℕ, nat_le, Bool, true, false, List, [], Ok, refl}
 use Rattle.std.specs.Prelude.{◌==◌, ◌||◌}
 use Rattle.ebnf.specs.Rules.{nothing, by_next}
 use Rattle.ebnf.specs.Sets.{has, first, low, is_empty}
 use Rattle.ebnf.specs.Derives.{next}
-use Rattle.ebnf.specs.Reading.{Out, read}
+use Rattle.ebnf.specs.Reading.{read}
 use Rattle.c_syntax.specs.declared.token.Sign.TheVariants as s
 use Rattle.c_syntax.specs.Classes.{sign}
 use Rattle.c_syntax.specs.Lexing.{Lexeme}

@@ -1,19 +1,22 @@
 -- The statements' rows, one by one, as the reader goes through them.
-use Rattle.std.specs.Prelude.{◌⊎◌, ℕ, suc, max, List, [], ◌∷◌, Option, Ok}
+use Rattle.std.specs.Prelude.{ℕ, suc, max, ◌-◌, Bool, false, ◌&&◌, ◌==◌, List, [], ◌∷◌, Option, Ok}
 use Rattle.ebnf.specs.Rules.{below, nothing, by_value, by_next, many, form, pick}
-use Rattle.ebnf.specs.Reading.{Out, on}
+use Rattle.ebnf.specs.Derives.{next}
+use Rattle.ebnf.specs.Reading.{Out, on, enter}
 use Rattle.c_syntax.specs.declared.token.Span.{Span}
 use Rattle.c_syntax.specs.declared.token.Keyword.TheVariants as k
 use Rattle.c_syntax.specs.declared.token.Sign.TheVariants as s
 use Rattle.c_syntax.specs.Classes.{key, sign}
 use Rattle.c_syntax.specs.Language.{language}
-use Rattle.c_syntax.specs.Expressions.{Exp}
+use Rattle.c_syntax.specs.Expressions.{Exp, Assignment}
+use Rattle.c_syntax.specs.Lexing.{Lexeme}
 use Rattle.c_syntax.specs.Statements as st
-use Rattle.c_syntax.specs.Statements.{Inv, Stm}
+use Rattle.c_syntax.specs.Statements.{Braces, Inv, Stm}
 use Rattle.c_syntax.specs.Grammar as g
 use Rattle.c_syntax.specs.Grammar.{P, R, ◌▷◌, word, name, inside, code, optional, ctype, stms_of, leaf, loop_body, first_value, else_part, if_of, is_name, call_statement, assign_statement, ghost_arguments, list_or_none, whole_spec}
 use Rattle.sides.specs.declared.assignments.Behind.{Behind}
 use Rattle.sides.specs.Views.{behind}
+use Rattle.expr_reader.specs.Reading.{rule_at}
 use Rattle.statement_reader.specs.declared.kinds.Kind.{Kind}
 use Rattle.statement_reader.specs.declared.kinds.Kind.TheVariants as kinds
 use Rattle.statement_reader.specs.declared.kinds.Annotation.{Annotation}
@@ -22,6 +25,22 @@ use Rattle.statement_reader.specs.declared.kinds.Annotation.TheVariants as forms
 -- as many statements as there are
 abbrev pub statements : P (List Stm)
 statements = many (below g.Statement (λ x. x)) (λ xs. xs)
+
+-- one of them
+abbrev pub one_statement : P Stm
+one_statement = below g.Statement (λ x. x)
+
+-- statements in braces
+abbrev pub braced : P Braces
+braced = word (sign s.BraceOpen) ▷ statements ▷ word (sign s.BraceClose) ▷ nothing (λ c xs o. record { start = o; all = stms_of xs; end = c })
+
+-- statements in braces, as a statement
+abbrev pub as_block : Braces → Stm
+as_block b = st.Block b.start b.all b.end
+
+-- an assignment of a `for`
+abbrev pub assigned_part : P Assignment
+assigned_part = below g.Assigned (λ x. x)
 
 -- a left side that is a name, and what stands behind it
 abbrev pub behind_name : P (Exp → Stm)
@@ -55,6 +74,20 @@ module _ {A : Type 0} (wrap : Stm → A) where
 
   abbrev pub do_loop : R A
   do_loop = form (word (key k.Do) ▷ loop_body ▷ word (key k.While) ▷ inside code ▷ word (sign s.Semicolon) ▷ nothing (λ c x q b p. wrap (st.Do p b.0 b.1 q x)))
+
+  -- what stands behind the body of a `do`
+  abbrev pub do_end : P (List Inv × Stm → Span → A)
+  do_end = word (key k.While) ▷ inside code ▷ word (sign s.Semicolon) ▷ nothing (λ c x q b p. wrap (st.Do p b.0 b.1 q x))
+
+  -- what stands behind the second `;` of a `for`, behind the first, and behind the word
+  abbrev pub for_end : P (Span → Exp → Span → Option Assignment → Span → Span → A)
+  for_end = optional assigned_part ▷ word (sign s.Close) ▷ loop_body ▷ nothing (λ b c z m y n x o p. wrap (st.For p x y z b.0 b.1))
+
+  abbrev pub for_test : P (Span → Option Assignment → Span → Span → A)
+  for_test = code ▷ word (sign s.Semicolon) ▷ for_end
+
+  abbrev pub for_behind : P (Span → A)
+  for_behind = word (sign s.Open) ▷ optional assigned_part ▷ word (sign s.Semicolon) ▷ for_test
 
   abbrev pub for_loop : R A
   for_loop = form (word (key k.For) ▷ word (sign s.Open) ▷ optional (below g.Assigned (λ x. x)) ▷ word (sign s.Semicolon) ▷ code ▷ word (sign s.Semicolon) ▷ optional (below g.Assigned (λ x. x)) ▷ word (sign s.Close) ▷ loop_body
@@ -173,3 +206,20 @@ assigned x l = st.Assign (g.first_place l) (behind x l)
 -- `_(` and a statement's form
 abbrev pub annotation : R Stm
 annotation = form (word (sign s.Annotation) ▷ g.annotated ▷ nothing (λ f p. f p))
+
+-- `_(invariant ..)`, with room for its parts
+abbrev pub invariant : R Inv
+invariant = form (word (sign s.Annotation) ▷ g.invariant_behind ▷ nothing (λ f p. f p))
+
+-- what is read of an invariant in front of a loop's body, no higher than room
+abbrev pub invariant_at : ℕ → List Lexeme → Out language Inv
+invariant_at room ts = enter language room 2 (rule_at (room - 1) invariant) ts
+
+-- `_(` and `invariant` come next
+abbrev pub begins_invariant : List Lexeme → Bool
+begins_invariant [] = false
+begins_invariant (x ∷ rest) = (language.class x == sign s.Annotation) && (next language rest == key k.Invariant)
+
+-- invariants so high, and the statement that is read behind them
+abbrev pub bodied : List Inv → ℕ → Out language Stm → Out language (List Inv × Stm)
+bodied xs h out = on language out (λ x i rest. Ok ((xs, x), max h i, rest))

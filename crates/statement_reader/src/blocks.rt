@@ -1,7 +1,21 @@
-//! Blocks.
+//! Blocks and bodies, and the statements that are made of them.
 
-use c_syntax::statements::Stmt;
+ghost use Rattle.std.specs.Prelude.{◌≡◌, map, IfOk, IfErr};
+ghost use Rattle.std.specs.Option.{option_map};
+ghost use Rattle.c_syntax.specs.Grammar as g;
+ghost use Rattle.c_syntax.specs.Statements as st;
+ghost use Rattle.c_syntax.specs.Views.{exp, exps, stm};
+ghost use Rattle.expr_reader.specs.Reading.{IsOutOfMemory};
+ghost use Rattle.statement_reader.specs.Rows.{as_block};
+ghost use Rattle.statement_reader.specs.Views as views;
+ghost use Rattle.statement_reader.specs.Views.{braces, body};
+
+use c_syntax::expressions::{Assignment, Expr};
+use c_syntax::statements::{Invariant, Stmt};
 use c_syntax::token::Span;
+use expr_reader::memory::boxed;
+use expr_reader::reading::ReadFault;
+use std::alloc::Global;
 
 /// Statements in braces, with the places of the braces.
 #[derive(Drop)]
@@ -9,4 +23,135 @@ pub struct Block {
     pub start: Span,
     pub statements: Vec<Stmt>,
     pub end: Span,
+}
+
+/// A loop's invariants, and the statement behind them.
+#[derive(Drop)]
+pub struct Body {
+    pub invariants: Vec<Invariant>,
+    pub inner: Stmt,
+}
+
+/// What stands behind the body of a `do`: the word `while`, and the condition.
+#[derive(Drop)]
+pub struct DoEnd {
+    pub span: Span,
+    pub condition: Expr,
+}
+
+/// What stands behind the second `;` of a `for`.
+#[derive(Drop)]
+pub struct ForEnd {
+    pub change: Option<Assignment>,
+    pub body: Body,
+}
+
+/// What stands behind the first `;` of a `for`.
+#[derive(Drop)]
+pub struct ForTest {
+    pub condition: Expr,
+    pub behind: ForEnd,
+}
+
+/// What stands behind the word `for`.
+#[derive(Drop)]
+pub struct ForBehind {
+    pub first: Option<Assignment>,
+    pub behind: ForTest,
+}
+
+/// Statements between these braces.
+#[tactic(auto, using(crate::proofs::Vectors::stms_are))]
+pub fn between(start: Span, statements: Vec<Stmt>, end: Span) -> Block
+    ensures { braces result ≡ record { start = start; all = g.stms_of (map stm statements.items); end = end } }
+{
+    Block {
+        start,
+        statements,
+        end,
+    }
+}
+
+/// A block as a statement.
+pub fn block_of(block: Block) -> Stmt
+    ensures { stm result ≡ as_block (braces block) }
+{
+    Stmt::Block(block.start, block.statements, block.end)
+}
+
+/// `unwrapping` with its block.
+pub fn unwrapping_of(span: Span, object: Expr, block: Block) -> Stmt
+    ensures { stm result ≡ st.Unwrapping span (exp object) (braces block).all (braces block).end }
+{
+    Stmt::Unwrapping(span, object, block.statements, block.end)
+}
+
+/// `atomic` with its block.
+pub fn atomic_of(span: Span, objects: Vec<Expr>, block: Block) -> Stmt
+    ensures { stm result ≡ st.Atomic span (exps objects.items) (braces block).all (braces block).end }
+{
+    Stmt::Atomic(span, objects, block.statements, block.end)
+}
+
+/// `if`, with `else` or without.
+pub fn branch_of<'a>(
+    alloc: Global,
+    span: Span,
+    condition: Expr,
+    first: Stmt,
+    second: Option<Stmt>,
+) -> Result<Stmt, ReadFault<'a>>
+    ensures ok { IfOk result (λ x. stm x ≡ g.if_of span (exp condition) (stm first) (option_map stm second)) }
+    ensures err { IfErr result IsOutOfMemory }
+{
+    let held = boxed(alloc, first)?;
+    match second {
+        None => Ok(Stmt::If(span, condition, held)),
+        Some(second) => {
+            let behind = boxed(alloc, second)?;
+            Ok(Stmt::IfElse(span, condition, held, behind))
+        }
+    }
+}
+
+/// `while` with its body.
+pub fn while_of<'a>(
+    alloc: Global,
+    span: Span,
+    condition: Expr,
+    found: Body,
+) -> Result<Stmt, ReadFault<'a>>
+    ensures ok { IfOk result (λ x. stm x ≡ st.While span (exp condition) (body found).0 (body found).1) }
+    ensures err { IfErr result IsOutOfMemory }
+{
+    let inner = boxed(alloc, found.inner)?;
+    Ok(Stmt::While(span, condition, found.invariants, inner))
+}
+
+/// `do` with its body.
+pub fn do_of<'a>(alloc: Global, span: Span, found: Body, end: DoEnd) -> Result<Stmt, ReadFault<'a>>
+    ensures ok { IfOk result (λ x. stm x ≡ views.do_end end (body found) span) }
+    ensures err { IfErr result IsOutOfMemory }
+{
+    let inner = boxed(alloc, found.inner)?;
+    Ok(Stmt::Do(span, found.invariants, inner, end.span, end.condition))
+}
+
+/// `for` with its body.
+pub fn for_of<'a>(alloc: Global, span: Span, found: ForBehind) -> Result<Stmt, ReadFault<'a>>
+    ensures ok { IfOk result (λ x. stm x ≡ views.for_behind found span) }
+    ensures err { IfErr result IsOutOfMemory }
+{
+    let test = found.behind;
+    let end = test.behind;
+    let body = end.body;
+    let inner = boxed(alloc, body.inner)?;
+    Ok(Stmt::For(
+        span,
+        found.first,
+        test.condition,
+        end.change,
+        body.invariants,
+        inner,
+    ))
 }

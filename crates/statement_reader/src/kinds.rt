@@ -5,6 +5,7 @@ ghost use Rattle.ebnf.specs.Sets.{has};
 ghost use Rattle.ebnf.specs.Derives.{next};
 ghost use Rattle.c_syntax.specs.Classes as classes;
 ghost use Rattle.c_syntax.specs.Lexing.{lexeme};
+ghost use Rattle.c_syntax.specs.Grammar as g;
 ghost use Rattle.c_syntax.specs.Language.{language};
 ghost use Rattle.expr_reader.specs.Reading.{lexemes};
 ghost use Rattle.statement_reader.specs.declared.kinds.Kind.{Kind};
@@ -12,6 +13,7 @@ ghost use Rattle.statement_reader.specs.declared.kinds.Annotation.{Annotation};
 ghost use Rattle.statement_reader.specs.Rows as rows;
 
 use c_syntax::token::{Keyword, Sign, Token, TokenKind};
+use expr_reader::tokens::next_is;
 
 /// A kind of statement that doesn't begin with `_(`.
 #[derive(Clone, Copy, Debug, PartialEq, Eq)]
@@ -84,6 +86,17 @@ pub fn kind_at<'a>(tokens: &'a [Token<'a>]) -> Option<Kind>
     match tokens.first() {
         Some(first) => of_token(first),
         None => None,
+    }
+}
+
+/// Whether a statement begins here.
+#[tactic(auto, using(crate::proofs::Forms::begins_kind, crate::proofs::Forms::begins_none))]
+pub fn begins_statement<'a>(tokens: &'a [Token<'a>]) -> bool
+    ensures { result ≡ has (language.begins g.Statement) (next language (lexemes tokens.now)) }
+{
+    match kind_at(tokens) {
+        Some(_) => true,
+        None => next_is(Sign::Annotation, tokens),
     }
 }
 

@@ -1,8 +1,9 @@
 //! The reader of statements.
 #![tactic(auto)]
 
+pub mod annotations;
 pub mod blocks;
 pub mod kinds;
+pub mod loops;
 pub mod simple;
-#[cfg(test)]
-mod tests;
+pub mod statements;

@@ -2,3 +2,4 @@ pub mod Judging
 pub mod Reading
 pub mod Printing
 pub mod Runs
+pub mod Programs

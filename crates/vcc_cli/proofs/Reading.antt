@@ -1,17 +1,21 @@
 -- What the reads of a check give.
-use Rattle.std.proofs.Common.{◌≡◌, inl, inr, ℕ, List, Result, Err, refl, subst}
+use Rattle.std.proofs.Common.{◌≡◌, ◌⊎◌, inl, inr, ℕ, List, Result, Err, refl, subst}
 use Rattle.first_form.specs.Tree.{Prog}
-use Rattle.first_form.specs.Reads.{IsFirstForm}
+use Rattle.first_program.specs.Reads.{IsFirstForm}
 use Rattle.wp_gen.specs.Conditions.{checks_of_program}
 use Rattle.wp_gen.specs.Law.{ConditionsMeanSafe}
 use Rattle.vcc_base.specs.Maps.{Map}
 use Rattle.vcc_base.specs.declared.limit.Limit.TheVariants.{SourceBytes}
 use Rattle.vcc_cli.specs.declared.judge.Verdict.{Verdict}
 use Rattle.vcc_cli.specs.declared.refusal.Refusal.{Refusal}
-use Rattle.vcc_cli.specs.declared.refusal.Refusal.TheVariants.{NotBuilt}
+use Rattle.vcc_cli.specs.declared.refusal.Refusal.TheVariants.{Usage, BadByte, BadNumber, OpenComment, Unexpected, UnknownForm, NotBuilt, Refused, Limit, Missing, ReadFault, OutOfMemory}
+use Rattle.vcc_cli.specs.Source.{IsSourceRefusal, IsSourceRefusalOrMemory}
 use Rattle.vcc_cli.specs.Accepts.{AllValid}
 use Rattle.vcc_cli.specs.Answer.{HoldsWithin, IsCertAnswer, IsCheckAnswer, IsProgramOf, IsSafeAnswer}
 use Rattle.vcc_cli.proofs.Judging.{valid_at}
+
+abbrev failed : Refusal → Result Verdict Refusal
+failed r = Err r
 
 -- a program is read, and the certificate's answer is the check's
 pub program_answer : (m : Map) (source_name cert_name source text : List ℕ) (p : Prog) (answer : Result Verdict Refusal) → HoldsWithin m source_name SourceBytes source → text ≡ source → IsFirstForm text p → ((q : Prog) → IsFirstForm text q → q ≡ p) → IsCertAnswer m cert_name (checks_of_program p) answer → IsCheckAnswer m source_name cert_name answer
@@ -20,9 +24,22 @@ program_answer m source_name cert_name source text p answer held is form only an
     inr (record { source = source; held = held; answered = inl (p, subst (λ (s : List ℕ). IsProgramOf s p) is is_program, answered) })
 
 -- no program is read
-pub unbuilt_answer : (m : Map) (source_name cert_name source text : List ℕ) → HoldsWithin m source_name SourceBytes source → text ≡ source → ((q : Prog) → IsFirstForm text q → ⊥) → IsCheckAnswer m source_name cert_name (Err NotBuilt)
-unbuilt_answer m source_name cert_name source text held is none =
-    inr (record { source = source; held = held; answered = inr (inl (refl, subst (λ (s : List ℕ). (q : Prog) → IsFirstForm s q → ⊥) is none)) })
+pub refused_answer : (m : Map) (source_name cert_name source text : List ℕ) (refusal : Refusal) → HoldsWithin m source_name SourceBytes source → text ≡ source → IsSourceRefusalOrMemory text refusal → IsCheckAnswer m source_name cert_name (Err refusal)
+refused_answer m source_name cert_name source text refusal held is refused = inr (record { source = source; held = held; answered = inr (split refusal (subst (λ (s : List ℕ). IsSourceRefusalOrMemory s refusal) is refused)) })
+  where
+    split : (r : Refusal) → IsSourceRefusalOrMemory source r → ((why : Refusal) × (failed r ≡ Err why) × IsSourceRefusal source why) ⊎ (failed r ≡ Err OutOfMemory)
+    split OutOfMemory x = inr refl
+    split Usage x = absurd x
+    split (BadByte p) x = inl (BadByte p, refl, x)
+    split (BadNumber p) x = inl (BadNumber p, refl, x)
+    split (OpenComment p) x = inl (OpenComment p, refl, x)
+    split (Unexpected p) x = inl (Unexpected p, refl, x)
+    split (UnknownForm p) x = inl (UnknownForm p, refl, x)
+    split NotBuilt x = inl (NotBuilt, refl, x)
+    split Refused x = absurd x
+    split (Limit l) x = inl (Limit l, refl, x)
+    split (Missing n) x = absurd x
+    split (ReadFault n) x = absurd x
 
 -- a program with valid conditions is safe
 pub safe_answer : (m : Map) (name source text : List ℕ) (p : Prog) → HoldsWithin m name SourceBytes source → text ≡ source → IsFirstForm text p → ConditionsMeanSafe → AllValid (checks_of_program p) → IsSafeAnswer m name

@@ -1,23 +1,28 @@
 -- From a run's answer to its meaning, and from acceptance to the answer.
 use Rattle.std.specs.Prelude.{codes}
 use Rattle.std.proofs.Common.{◌≡◌, ◌⊎◌, inl, inr, ℕ, suc, ◌+◌, ◌<◌, ◌≤◌, List, [], ◌∷◌, length, Option, Some, IsNone, Result, Ok, Err, refl, ap, sym, ◌∙◌, subst, arith}
+use Rattle.c_source.specs.declared.fault.SourceFault.{SourceFault}
+use Rattle.c_source.specs.declared.fault.SourceFault.TheVariants as f
+use Rattle.c_source.specs.Sources.{IsFault}
+use Rattle.c_source.proofs.Unique.{not_both}
 use Rattle.first_form.specs.Tree.{Prog}
-use Rattle.first_form.specs.Reads.{IsFirstForm}
+use Rattle.first_program.specs.Reads.{IsFirstForm}
 use Rattle.cert_format.specs.declared.certificate.Step.{Step}
 use Rattle.cert_format.specs.Text.{IsCertText}
 use Rattle.wp_gen.specs.Conditions.{Check, checks_of_program}
 use Rattle.vcc_base.specs.Maps.{Map}
 use Rattle.vcc_base.specs.Limits.{number_of}
 use Rattle.vcc_base.specs.declared.limit.Limit.{Limit as AnyLimit}
-use Rattle.vcc_base.specs.declared.limit.Limit.TheVariants.{SourceBytes, CertBytes}
+use Rattle.vcc_base.specs.declared.limit.Limit.TheVariants.{SourceBytes, ScheduleBytes, Tokens, Depth, Conditions, CertBytes, Terms}
 use Rattle.vcc_cli.specs.declared.judge.Label.{Label}
 use Rattle.vcc_cli.specs.declared.judge.Verdict.{Verdict}
 use Rattle.vcc_cli.specs.declared.judge.Verdict.TheVariants.{Yes, No}
 use Rattle.vcc_cli.specs.declared.refusal.Refusal.{Refusal}
-use Rattle.vcc_cli.specs.declared.refusal.Refusal.TheVariants.{Usage, NotBuilt, Refused, Limit, Missing, ReadFault, OutOfMemory}
+use Rattle.vcc_cli.specs.declared.refusal.Refusal.TheVariants.{Usage, BadByte, BadNumber, OpenComment, Unexpected, UnknownForm, NotBuilt, Refused, Limit, Missing, ReadFault, OutOfMemory}
 use Rattle.vcc_cli.specs.Command.{IsCheck}
 use Rattle.vcc_cli.specs.Accepts.{Accepts, AllFollow}
 use Rattle.vcc_cli.specs.Answer.{AreJudged, FirstNot, HoldsTooMuch, IsAccepted, IsAnswer, IsCertAnswer, IsCertificateOf, IsCheckAnswer, IsCheckOf, IsProgramOf, IsSafeAnswer, IsSafeSource, IsUnread, IsUnreadAnswer, SourceIsSafe}
+use Rattle.vcc_cli.specs.Source.{IsSourceRefusal}
 use Rattle.vcc_cli.specs.Faults.{IsReadFault}
 use Rattle.vcc_cli.specs.Lines.{IsReported, Written, status_of}
 use Rattle.vcc_cli.specs.Run.{IsRun, ReadCounts}
@@ -31,6 +36,11 @@ yes_has_zero : (answer : Result Verdict Refusal) → 0 ≡ status_of answer → 
 yes_has_zero (Ok Yes) e = refl
 yes_has_zero (Ok (No label)) e = absurd (omega arith)
 yes_has_zero (Err Usage) e = absurd (omega arith)
+yes_has_zero (Err (BadByte place)) e = absurd (omega arith)
+yes_has_zero (Err (BadNumber place)) e = absurd (omega arith)
+yes_has_zero (Err (OpenComment place)) e = absurd (omega arith)
+yes_has_zero (Err (Unexpected place)) e = absurd (omega arith)
+yes_has_zero (Err (UnknownForm place)) e = absurd (omega arith)
 yes_has_zero (Err NotBuilt) e = absurd (omega arith)
 yes_has_zero (Err Refused) e = absurd (omega arith)
 yes_has_zero (Err (Limit limit)) e = absurd (omega arith)
@@ -80,9 +90,9 @@ accepted_cert : (m : Map) (source_name cert_name source : List ℕ) (p : Prog) �
 accepted_cert m source_name cert_name source p held form (inl unread) = absurd (no_refusal unread.refusal unread.is)
 accepted_cert m source_name cert_name source p held form (inr found) = accepted_blocks m source_name cert_name source found.cert p held form found.held.0 found.judged
 
-accepted_source : (m : Map) (source_name cert_name source : List ℕ) → m source_name ≡ Some source → ((p : Prog) × IsProgramOf source p × IsCertAnswer m cert_name (checks_of_program p) (Ok Yes)) ⊎ ((yes_answer ≡ Err NotBuilt) × ((p : Prog) → IsFirstForm source p → ⊥)) ⊎ (yes_answer ≡ Err OutOfMemory) → AcceptedNames m source_name cert_name
+accepted_source : (m : Map) (source_name cert_name source : List ℕ) → m source_name ≡ Some source → ((p : Prog) × IsProgramOf source p × IsCertAnswer m cert_name (checks_of_program p) (Ok Yes)) ⊎ ((refusal : Refusal) × (yes_answer ≡ Err refusal) × IsSourceRefusal source refusal) ⊎ (yes_answer ≡ Err OutOfMemory) → AcceptedNames m source_name cert_name
 accepted_source m source_name cert_name source held (inl found) = accepted_cert m source_name cert_name source found.0 held found.1.form found.2
-accepted_source m source_name cert_name source held (inr (inl refused)) = absurd (no_refusal NotBuilt refused.0)
+accepted_source m source_name cert_name source held (inr (inl refused)) = absurd (no_refusal refused.0 refused.1)
 accepted_source m source_name cert_name source held (inr (inr wanting)) = absurd (no_refusal OutOfMemory wanting)
 
 accepted_names : (m : Map) (source_name cert_name : List ℕ) → IsCheckAnswer m source_name cert_name (Ok Yes) → AcceptedNames m source_name cert_name
@@ -124,6 +134,11 @@ IsYesOrFault answer = (answer ≡ Ok Yes) ⊎ (answer ≡ Err OutOfMemory) ⊎ I
 -- a name that is held, with no more bytes than the limit allows, is read, but for a fault
 read_faults_only : (m : Map) (name : List ℕ) (limit : AnyLimit) (bytes : List ℕ) (refusal : Refusal) → m name ≡ Some bytes → length bytes ≤ number_of limit → IsUnread m name limit refusal → IsYesOrFault (Err refusal)
 read_faults_only m name limit bytes Usage held within unread = absurd unread
+read_faults_only m name limit bytes (BadByte place) held within unread = absurd unread
+read_faults_only m name limit bytes (BadNumber place) held within unread = absurd unread
+read_faults_only m name limit bytes (OpenComment place) held within unread = absurd unread
+read_faults_only m name limit bytes (Unexpected place) held within unread = absurd unread
+read_faults_only m name limit bytes (UnknownForm place) held within unread = absurd unread
 read_faults_only m name limit bytes NotBuilt held within unread = absurd unread
 read_faults_only m name limit bytes Refused held within unread = absurd unread
 read_faults_only m name limit bytes (Limit l) held within unread =
@@ -157,6 +172,11 @@ judged_yes : (checks : List Check) (blocks : List (List Step)) (answer : Result 
 judged_yes checks blocks (Ok Yes) follow judged = inl refl
 judged_yes checks blocks (Ok (No l)) follow judged = absurd (none_not checks blocks 1 l follow judged)
 judged_yes checks blocks (Err Usage) follow judged = absurd judged
+judged_yes checks blocks (Err (BadByte place)) follow judged = absurd judged
+judged_yes checks blocks (Err (BadNumber place)) follow judged = absurd judged
+judged_yes checks blocks (Err (OpenComment place)) follow judged = absurd judged
+judged_yes checks blocks (Err (Unexpected place)) follow judged = absurd judged
+judged_yes checks blocks (Err (UnknownForm place)) follow judged = absurd judged
 judged_yes checks blocks (Err NotBuilt) follow judged = absurd judged
 judged_yes checks blocks (Err Refused) follow judged = absurd (judged (as_many checks blocks follow))
 judged_yes checks blocks (Err (Limit l)) follow judged = absurd judged
@@ -176,18 +196,45 @@ cert_yes m name checks cert accepted answer held within text follow (inr found) 
     let same : cert ≡ found.cert = one_value (m name) cert found.cert held found.held.0 in
     blocks_yes checks found.cert accepted answer (subst (λ (c : List ℕ). IsCertText c accepted) same text) follow found.judged
 
-program_yes : (m : Map) (cert_name source cert : List ℕ) (answer : Result Verdict Refusal) (accepts : Accepts source cert) → m cert_name ≡ Some cert → length cert ≤ number_of CertBytes → IsFirstForm source accepts.program → ((p : Prog) × IsProgramOf source p × IsCertAnswer m cert_name (checks_of_program p) answer) ⊎ ((answer ≡ Err NotBuilt) × ((p : Prog) → IsFirstForm source p → ⊥)) ⊎ (answer ≡ Err OutOfMemory) → IsYesOrFault answer
+-- a source of the form is not refused
+not_refused : (source : List ℕ) (p : Prog) (refusal : Refusal) → IsFirstForm source p → IsSourceRefusal source refusal → ⊥
+not_refused source p refusal form refused = go refusal refused
+  where
+    none : (fault : SourceFault) → IsFault source fault → ⊥
+    none fault = not_both source form.reads.items form.reads.end form.reads.text fault form.within
+
+    go : (r : Refusal) → IsSourceRefusal source r → ⊥
+    go Usage x = x
+    go (BadByte q) x = none (f.BadByte q) x
+    go (BadNumber q) x = none (f.BadNumber q) x
+    go (OpenComment q) x = none (f.OpenComment q) x
+    go (Unexpected q) x = none (f.Unexpected q) x
+    go (UnknownForm q) x = none (f.UnknownForm q) x
+    go NotBuilt x = x.other p form
+    go Refused x = x
+    go (Limit SourceBytes) x = x
+    go (Limit ScheduleBytes) x = x
+    go (Limit Tokens) x = none (f.TooManyTokens x.0) x.1
+    go (Limit Depth) x = none (f.TooDeep x.0) x.1
+    go (Limit Conditions) x = x
+    go (Limit CertBytes) x = x
+    go (Limit Terms) x = x
+    go (Missing n) x = x
+    go (ReadFault n) x = x
+    go OutOfMemory x = x
+
+program_yes : (m : Map) (cert_name source cert : List ℕ) (answer : Result Verdict Refusal) (accepts : Accepts source cert) → m cert_name ≡ Some cert → length cert ≤ number_of CertBytes → IsFirstForm source accepts.program → ((p : Prog) × IsProgramOf source p × IsCertAnswer m cert_name (checks_of_program p) answer) ⊎ ((refusal : Refusal) × (answer ≡ Err refusal) × IsSourceRefusal source refusal) ⊎ (answer ≡ Err OutOfMemory) → IsYesOrFault answer
 program_yes m cert_name source cert answer accepts held within form (inl found) =
     cert_yes m cert_name (checks_of_program found.0) cert accepts.blocks answer held within accepts.text
     (subst (λ (p : Prog). AllFollow (checks_of_program p) accepts.blocks) (found.1.only accepts.program form) accepts.follow) found.2
-program_yes m cert_name source cert answer accepts held within form (inr (inl refused)) = absurd (refused.1 accepts.program form)
+program_yes m cert_name source cert answer accepts held within form (inr (inl refused)) = absurd (not_refused source accepts.program refused.0 form refused.2)
 program_yes m cert_name source cert answer accepts held within form (inr (inr wanting)) = inr (inl wanting)
 
 -- the same, of another list of bytes that is this one
-source_yes : (m : Map) (cert_name source other cert : List ℕ) (answer : Result Verdict Refusal) (accepts : Accepts source cert) → other ≡ source → m cert_name ≡ Some cert → length cert ≤ number_of CertBytes → IsFirstForm source accepts.program → ((p : Prog) × IsProgramOf other p × IsCertAnswer m cert_name (checks_of_program p) answer) ⊎ ((answer ≡ Err NotBuilt) × ((p : Prog) → IsFirstForm other p → ⊥)) ⊎ (answer ≡ Err OutOfMemory) → IsYesOrFault answer
+source_yes : (m : Map) (cert_name source other cert : List ℕ) (answer : Result Verdict Refusal) (accepts : Accepts source cert) → other ≡ source → m cert_name ≡ Some cert → length cert ≤ number_of CertBytes → IsFirstForm source accepts.program → ((p : Prog) × IsProgramOf other p × IsCertAnswer m cert_name (checks_of_program p) answer) ⊎ ((refusal : Refusal) × (answer ≡ Err refusal) × IsSourceRefusal other refusal) ⊎ (answer ≡ Err OutOfMemory) → IsYesOrFault answer
 source_yes m cert_name source other cert answer accepts same held within form answered =
     program_yes m cert_name source cert answer accepts held within form
-    (subst (λ (s : List ℕ). ((p : Prog) × IsProgramOf s p × IsCertAnswer m cert_name (checks_of_program p) answer) ⊎ ((answer ≡ Err NotBuilt) × ((p : Prog) → IsFirstForm s p → ⊥)) ⊎ (answer ≡ Err OutOfMemory)) same answered)
+    (subst (λ (s : List ℕ). ((p : Prog) × IsProgramOf s p × IsCertAnswer m cert_name (checks_of_program p) answer) ⊎ ((refusal : Refusal) × (answer ≡ Err refusal) × IsSourceRefusal s refusal) ⊎ (answer ≡ Err OutOfMemory)) same answered)
 
 check_yes : (m : Map) (source_name cert_name source cert : List ℕ) (answer : Result Verdict Refusal) (accepts : Accepts source cert) → m source_name ≡ Some source → m cert_name ≡ Some cert → length cert ≤ number_of CertBytes → IsFirstForm source accepts.program → IsCheckAnswer m source_name cert_name answer → IsYesOrFault answer
 check_yes m source_name cert_name source cert answer accepts source_held cert_held within form (inl unread) =

@@ -3,7 +3,7 @@ use Rattle.std.specs.Prelude.{ℕ, List, [], ◌∷◌}
 use Rattle.terms.specs.declared.term.Term.{Term}
 use Rattle.terms.specs.Formula.{Numbered}
 use Rattle.first_form.specs.Tree.{Prog}
-use Rattle.first_form.specs.Reads.{Reads}
+use Rattle.first_program.specs.Reads.{Reads}
 use Rattle.cert_format.specs.declared.certificate.Step.{Step}
 use Rattle.cert_format.specs.Text.{IsCertText}
 use Rattle.refutation_check.specs.Follows.{Follows}

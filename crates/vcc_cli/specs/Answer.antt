@@ -1,7 +1,7 @@
 -- What the answers of `check` mean.
 use Rattle.std.specs.Prelude.{◌≡◌, ◌≢◌, ◌⊎◌, ℕ, ◌+◌, ◌<◌, ◌≤◌, List, [], ◌∷◌, length, Some, IsNone, Result, Ok, Err}
 use Rattle.first_form.specs.Tree.{Prog}
-use Rattle.first_form.specs.Reads.{Reads, IsFirstForm}
+use Rattle.first_program.specs.Reads.{Reads, IsFirstForm}
 use Rattle.ref_machine.specs.Safe.{Safe}
 use Rattle.cert_format.specs.declared.certificate.Step.{Step}
 use Rattle.cert_format.specs.Text.{IsCertText}
@@ -14,9 +14,10 @@ use Rattle.vcc_cli.specs.declared.judge.Label.{Label}
 use Rattle.vcc_cli.specs.declared.judge.Verdict.{Verdict}
 use Rattle.vcc_cli.specs.declared.judge.Verdict.TheVariants.{Yes, No}
 use Rattle.vcc_cli.specs.declared.refusal.Refusal.{Refusal}
-use Rattle.vcc_cli.specs.declared.refusal.Refusal.TheVariants.{Usage, NotBuilt, Refused, Limit, Missing, ReadFault, OutOfMemory}
+use Rattle.vcc_cli.specs.declared.refusal.Refusal.TheVariants.{Usage, Refused, Limit, Missing, ReadFault, OutOfMemory}
 use Rattle.vcc_cli.specs.Command.{IsCheck}
 use Rattle.vcc_cli.specs.Accepts.{Accepts, AllFollow, FollowsBy}
+use Rattle.vcc_cli.specs.Source.{IsSourceRefusal}
 
 -- ---- what a yes means
 
@@ -112,11 +113,11 @@ pub record IsUnreadAnswer (m : Map) (name : List ℕ) (limit : AnyLimit) (answer
 abbrev pub IsCertAnswer : Map → List ℕ → List Check → Result Verdict Refusal → Type 0
 IsCertAnswer m name checks answer = IsUnreadAnswer m name CertBytes answer ⊎ IsJudged m name checks answer
 
--- what the source under this name gives, where its bytes are read: it is of no form that is built, or its program is judged
+-- what the source under this name gives, where its bytes are read: its program is judged, or it is refused
 pub record IsSourceAnswer (m : Map) (source_name cert_name : List ℕ) (answer : Result Verdict Refusal) : Type 0 where
   pub source : List ℕ
   pub held : HoldsWithin m source_name SourceBytes source
-  pub answered : ((p : Prog) × IsProgramOf source p × IsCertAnswer m cert_name (checks_of_program p) answer) ⊎ ((answer ≡ Err NotBuilt) × ((p : Prog) → IsFirstForm source p → ⊥)) ⊎ (answer ≡ Err OutOfMemory)
+  pub answered : ((p : Prog) × IsProgramOf source p × IsCertAnswer m cert_name (checks_of_program p) answer) ⊎ ((refusal : Refusal) × (answer ≡ Err refusal) × IsSourceRefusal source refusal) ⊎ (answer ≡ Err OutOfMemory)
 
 -- The answer of a check of these two names: the source is read, then the certificate, then the conditions are judged in order; the first that refuses decides.
 abbrev pub IsCheckAnswer : Map → List ℕ → List ℕ → Result Verdict Refusal → Type 0

@@ -1,5 +1,6 @@
 pub mod Command
 pub mod Accepts
+pub mod Source
 pub mod Answer
 pub mod Verdicts
 pub mod Faults

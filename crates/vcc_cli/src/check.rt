@@ -1,6 +1,7 @@
 //! The command `check`.
 
-ghost use Rattle.std.specs.Prelude.{◌≡◌, ◌<◌, ◌≤◌, Ok, Err, Some, Result, MatchResult};
+ghost use Rattle.std.specs.Prelude.{◌≡◌, ◌<◌, ◌≤◌, length, IfOk, Ok, Err, Some, Result, MatchResult};
+ghost use Rattle.vcc_base.specs.Limits.{number_of};
 ghost use Rattle.vcc_base.specs.Maps.{Map};
 ghost use Rattle.first_form.specs.Tree.{program as read_as};
 ghost use Rattle.wp_gen.specs.Conditions.{checks_of_program};
@@ -9,11 +10,10 @@ ghost use Rattle.vcc_cli.specs.Answer.{HoldsWithin, IsCertAnswer, IsCheckAnswer,
 ghost use Rattle.vcc_cli.specs.Faults.{IsReadFault};
 
 use crate::judge::{Verdict, judge_blocks};
+use crate::program::read_program;
 use crate::refusal::Refusal;
 use cert_format::decode::{CertFault, decode};
-use first_form::fault::SourceFault;
 use first_form::tree::Program;
-use first_reader::read_source;
 use std::alloc::Global;
 use vcc_base::limit::Limit;
 use vcc_base::store::Store;
@@ -28,6 +28,7 @@ fn read<'a, S: Store>(
     limit: Limit,
 ) -> Result<Vec<u8>, Refusal<'a>>
     ensures bytes { (m : Map) → S.contents store.old ≡ Some m → MatchResult result (λ v. HoldsWithin m name.entry.now limit v.items) (IsUnread m name.entry.now limit) }
+    ensures within { IfOk result (λ v. length v.items ≤ number_of limit) }
     ensures fault { IsReadFault result → S.read_faults store.old < S.read_faults store.new }
     ensures never_falls { S.read_faults store.old ≤ S.read_faults store.new }
     ensures kept { S.contents store.new ≡ S.contents store.old }
@@ -86,12 +87,11 @@ pub fn check<'a, S: Store>(
         Ok(bytes) => bytes,
         Err(refusal) => return Err(refusal),
     };
-    match read_source(alloc, &bytes) {
+    match read_program(alloc, &bytes) {
         Ok(program) => {
             let answer = judge_name(alloc, store, &program, cert);
             answer
         }
-        Err(SourceFault::NotBuilt) => Err(Refusal::NotBuilt),
-        Err(SourceFault::OutOfMemory) => Err(Refusal::OutOfMemory),
+        Err(refusal) => Err(refusal),
     }
 }

@@ -1,9 +1,9 @@
 //! Sources, each with the terms of its conditions or its refusal. The expected texts were made by another program, written
 //! from the grammar, the translation and the numbering of docs/LANGUAGE.md and docs/CONDITIONS.md alone.
 
-use first_form::fault::SourceFault;
+use crate::program::read_program;
+use crate::refusal::Refusal;
 use first_form::tree::Program;
-use first_reader::read_source;
 use std::alloc::{AllocError, Global};
 use std::fmt::Write;
 use std::test::Fail;
@@ -138,13 +138,13 @@ const ROWS: &[(&str, &str)] = &[
         "void main(int x) _(requires x == 1) { if (x == 1) { _(assert x == 1) } _(assert x == 1) }",
         "Ch 0, Good 0, Int -2147483648, Ci 0, Le 2 3, Int 2147483647, Le 3 5, Int 1, Eq 3 7, And 8 8, And 6 9, And 4 10, And 1 11, Imp 12 8 | Ch 0, Good 0, Int -2147483648, Ci 0, Le 2 3, Int 2147483647, Le 3 5, Int 1, Eq 3 7, And 8 8, Not 8, Or 9 10, And 8 11, And 6 12, And 4 13, And 1 14, Imp 15 8",
     ),
-    ("void main(int if) {}", "not built"),
-    ("void main(int NULL) {}", "not built"),
+    ("void main(int if) {}", "unexpected"),
+    ("void main(int NULL) {}", "unexpected"),
     ("void main(int x, int x) {}", "not built"),
     ("void main(int x) { _(assert y == x) }", "not built"),
-    ("void main() { _(assert 01 == 1) }", "not built"),
-    ("void main()\t{}", "not built"),
-    ("void main() { // nothing\n}", "not built"),
+    ("void main() { _(assert 01 == 1) }", "bad number"),
+    ("void main()\t{}", ""),
+    ("void main() { // nothing\n}", ""),
     ("void main() { _(assert 1 < 2) }", "not built"),
     ("void main(int x) { x = 1; }", "not built"),
 ];
@@ -183,19 +183,27 @@ fn shown(alloc: Global, program: &Program) -> Result<String, AllocError> {
     Ok(out)
 }
 
+/// A word for each refusal of a source.
+fn refused(refusal: Refusal<'_>) -> &'static str {
+    match refusal {
+        Refusal::NotBuilt => "not built",
+        Refusal::BadNumber(_) => "bad number",
+        Refusal::Unexpected(_) => "unexpected",
+        _ => "other",
+    }
+}
+
 #[test]
 fn conditions_of_sources(rt: HostRuntime) -> Result<(), Fail> {
     let alloc = rt.alloc();
     for (source, want) in ROWS {
-        match read_source(alloc, source.as_bytes()) {
+        assert!(rt; source.len() <= 1000);
+        match read_program(alloc, source.as_bytes()) {
             Ok(program) => {
                 let got = shown(alloc, &program)?;
                 assert_eq!(rt; got.as_str(), *want, "of {source}");
             }
-            Err(fault) => {
-                assert_eq!(rt; fault, SourceFault::NotBuilt, "of {source}");
-                assert_eq!(rt; "not built", *want, "of {source}");
-            }
+            Err(refusal) => assert_eq!(rt; refused(refusal), *want, "of {source}"),
         }
     }
     Ok(())

@@ -5,6 +5,7 @@ pub mod check;
 pub mod command;
 pub mod judge;
 mod main_call;
+pub mod program;
 pub mod refusal;
 pub mod report;
 
@@ -12,5 +13,7 @@ pub use main_call::vcc_main;
 
 #[cfg(test)]
 mod condition_tests;
+#[cfg(test)]
+mod source_tests;
 #[cfg(test)]
 mod tests;

@@ -1,7 +1,7 @@
 //! The top call.
 
 ghost use Rattle.std.specs.Prelude.{◌≡◌, ◌⊎◌, ◌≤◌, List, ℕ, length, Some};
-ghost use Rattle.first_form.specs.Reads.{IsFirstForm};
+ghost use Rattle.first_program.specs.Reads.{IsFirstForm};
 ghost use Rattle.vcc_base.specs.Maps.{Map};
 ghost use Rattle.vcc_base.specs.Limits.{number_of};
 ghost use Rattle.vcc_cli.specs.Command.{texts};

@@ -1,5 +1,6 @@
 //! Why a command gives no verdict.
 
+use c_syntax::token::Span;
 use vcc_base::limit::Limit;
 
 /// Why a command gives no verdict.
@@ -7,11 +8,21 @@ use vcc_base::limit::Limit;
 pub enum Refusal<'a> {
     /// The words are no command.
     Usage,
+    /// A byte of the source that begins no token.
+    BadByte(Span),
+    /// What has the shape of a number and is none.
+    BadNumber(Span),
+    /// A comment without end.
+    OpenComment(Span),
+    /// A token with which no source goes on.
+    Unexpected(Span),
+    /// A word behind `_(` that is a form nowhere.
+    UnknownForm(Span),
     /// The source isn't of the form that is built so far.
     NotBuilt,
     /// The certificate isn't well formed, or has another number of blocks than there are conditions.
     Refused,
-    /// More bytes than this limit allows.
+    /// More than this limit allows.
     Limit(Limit),
     Missing(&'a str),
     ReadFault(&'a str),

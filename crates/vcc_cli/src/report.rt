@@ -3,10 +3,11 @@
 ghost use Rattle.std.specs.Prelude.{◌≡◌, ◌<◌, ◌≤◌, ◌++◌, OnOk, OnErr, IsErrOf, codes, decimal};
 ghost use Rattle.vcc_base.specs.Maps.{NowWritten, FrontWritten};
 ghost use Rattle.vcc_base.specs.Limits.{number_of, name_of};
-ghost use Rattle.vcc_cli.specs.Lines.{IsReported, line, line_of, status_of};
+ghost use Rattle.vcc_cli.specs.Lines.{IsReported, line, line_of, place_text, source_line, status_of};
 
 use crate::judge::{Label, Verdict};
 use crate::refusal::Refusal;
+use c_syntax::token::Span;
 use vcc_base::limit::Limit;
 use vcc_base::sink::{Sink, SinkFault};
 use vcc_base::whole::{put_all, put_number};
@@ -49,6 +50,19 @@ fn put_named<O: Sink>(out: &mut O, word: &[u8], name: &str) -> Result<(), SinkFa
     Ok(())
 }
 
+/// A place: its line and its column.
+fn put_place<O: Sink>(out: &mut O, place: Span) -> Result<(), SinkFault>
+    ensures ok { OnOk result (NowWritten (O.written out.old) (O.written out.new) (place_text place)) }
+    ensures err { OnErr result (FrontWritten (O.written out.old) (O.written out.new) (place_text place)) }
+    ensures failed { IsErrOf result SinkFault.Failed → O.faults out.old < O.faults out.new }
+    ensures never_falls { O.faults out.old ≤ O.faults out.new }
+{
+    put_natural(out, u64::from(place.line))?;
+    put_all(out, b":")?;
+    put_natural(out, u64::from(place.column))?;
+    Ok(())
+}
+
 /// The line of a limit.
 fn put_limit<O: Sink>(out: &mut O, limit: Limit) -> Result<(), SinkFault>
     ensures ok { OnOk result (NowWritten (O.written out.old) (O.written out.new) (codes "limit: " ++ (name_of limit ++ (codes " " ++ line (decimal (number_of limit)))))) }
@@ -64,6 +78,23 @@ fn put_limit<O: Sink>(out: &mut O, limit: Limit) -> Result<(), SinkFault>
     Ok(())
 }
 
+/// The line of a fault of the source, which is a fault of this stage with this number.
+fn put_fault<O: Sink>(out: &mut O, place: Span, stage: &[u8], number: u64) -> Result<(), SinkFault>
+    ensures ok { OnOk result (NowWritten (O.written out.old) (O.written out.new) (source_line place stage.now number)) }
+    ensures err { OnErr result (FrontWritten (O.written out.old) (O.written out.new) (source_line place stage.now number)) }
+    ensures failed { IsErrOf result SinkFault.Failed → O.faults out.old < O.faults out.new }
+    ensures never_falls { O.faults out.old ≤ O.faults out.new }
+{
+    put_all(out, b"source ")?;
+    put_place(out, place)?;
+    put_all(out, b": ")?;
+    put_all(out, stage)?;
+    put_all(out, b" ")?;
+    put_natural(out, number)?;
+    put_all(out, b"\n")?;
+    Ok(())
+}
+
 /// Prints the line of an answer.
 fn put_answer<O: Sink>(out: &mut O, answer: Result<Verdict, Refusal<'_>>) -> Result<(), SinkFault>
     ensures ok { OnOk result (NowWritten (O.written out.old) (O.written out.new) (line_of answer.entry)) }
@@ -74,6 +105,11 @@ fn put_answer<O: Sink>(out: &mut O, answer: Result<Verdict, Refusal<'_>>) -> Res
         Ok(Verdict::Yes) => put_all(out, b"yes\n"),
         Ok(Verdict::No(label)) => put_no(out, label),
         Err(Refusal::Usage) => put_all(out, b"usage: vcc check SOURCE CERT\n"),
+        Err(Refusal::BadByte(place)) => put_fault(out, place, b"token", 1),
+        Err(Refusal::BadNumber(place)) => put_fault(out, place, b"token", 2),
+        Err(Refusal::OpenComment(place)) => put_fault(out, place, b"token", 3),
+        Err(Refusal::Unexpected(place)) => put_fault(out, place, b"syntax", 1),
+        Err(Refusal::UnknownForm(place)) => put_fault(out, place, b"syntax", 2),
         Err(Refusal::NotBuilt) => put_all(out, b"source: not built\n"),
         Err(Refusal::Refused) => put_all(out, b"certificate: refused\n"),
         Err(Refusal::Limit(limit)) => put_limit(out, limit),
@@ -91,6 +127,11 @@ fn status(answer: Result<Verdict, Refusal<'_>>) -> u8
         Ok(Verdict::Yes) => 0,
         Ok(Verdict::No(_)) => 1,
         Err(Refusal::Usage) => 2,
+        Err(Refusal::BadByte(_)) => 3,
+        Err(Refusal::BadNumber(_)) => 3,
+        Err(Refusal::OpenComment(_)) => 3,
+        Err(Refusal::Unexpected(_)) => 3,
+        Err(Refusal::UnknownForm(_)) => 3,
         Err(Refusal::NotBuilt) => 3,
         Err(Refusal::Refused) => 4,
         Err(Refusal::Limit(_)) => 5,

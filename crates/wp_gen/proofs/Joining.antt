@@ -9,7 +9,7 @@ use Rattle.terms.proofs.Numbering.{numbered_binary}
 use Rattle.first_form.specs.Tree as t
 use Rattle.first_form.specs.declared.tree.Stmt as s
 use Rattle.first_form.specs.declared.tree.Test as e
-use Rattle.first_form.specs.declared.token.Span.{Span}
+use Rattle.c_syntax.specs.declared.token.Span.{Span}
 use mathlib.Core.Former.{Count}
 use Rattle.std.proofs.Common.{Vec, Global}
 use Rattle.wp_gen.specs.Translation.{all_of, test, negation, implication, good_entry, fact_behind, facts_behind}

@@ -1,7 +1,7 @@
 //! Programs, and their conditions.
 
 use crate::condition::{Condition, checks, condition_of};
-use first_form::token::Span;
+use c_syntax::token::Span;
 use first_form::tree::{Clause, Comparison, Operand, Program, Stmt, Test};
 use std::alloc::{AllocError, Global};
 use std::fmt::Write;

@@ -1,4 +1,4 @@
-use Rattle.std.proofs.Common.{◌≡◌, true, false, ap, sym, ◌∙◌}
+use Rattle.std.proofs.Common.{ap, sym, ◌∙◌}
 use Rattle.c_syntax.specs.Expressions as e
 use Rattle.c_syntax.specs.Views.{id, stm}
 use Rattle.expr_reader.specs.Reading.{lexemes}

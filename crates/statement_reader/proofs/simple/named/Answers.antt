@@ -1,11 +1,7 @@
-use Rattle.std.proofs.Common.{◌≡◌, true, false, ap, sym, ◌∙◌}
-use Rattle.std.specs.Prelude.{if◌then◌else◌}
 use Rattle.std.proofs.lemmas.Result.{err_from_is_err_and}
 use Rattle.c_syntax.specs.Views.{exp, stm}
-use Rattle.c_syntax.specs.Grammar as g
-use Rattle.expr_reader.specs.Reading.{lexemes, part}
+use Rattle.expr_reader.specs.Reading.{lexemes}
 use Rattle.expr_reader.proofs.Outcomes.{first_err, then_gives, same_gives}
-use Rattle.statement_reader.specs.Rows.{behind_name, behind_left}
 use Rattle.statement_reader.proofs.Names.{named_read, name_behind, other_behind}
 use Rattle.statement_reader.proofs.simple.named.Goals as goal
 

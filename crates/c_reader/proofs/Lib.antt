@@ -1,0 +1,5 @@
+pub mod ItemKinds
+pub mod Attributed
+pub mod Sequences
+pub mod Fronts
+pub mod Whole

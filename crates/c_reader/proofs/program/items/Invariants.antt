@@ -1,0 +1,15 @@
+use Rattle.std.proofs.Common.{◌≡◌, ◌≤◌, map, length}
+use Rattle.c_syntax.specs.Views.{item}
+use Rattle.expr_reader.specs.Reading.{lexemes, part}
+use Rattle.sides.proofs.Repeats.{going}
+use Rattle.c_reader.specs.Rows as rows
+use Rattle.c_reader.proofs.program.items.Given as goal
+
+abbrev pub invariant-more : goal.invariant-more
+invariant-more l = record {
+  low : l.found.height ≤ l.room;
+  same : going l.room rows.one_item (λ xs. xs) (map item l.found.value.items) l.found.height (lexemes l.found.rest.now) ≡ part l.room rows.items (lexemes l.fn.tokens);
+}
+
+abbrev pub decreases-more : goal.decreases-more
+decreases-more l = length l.found.rest.now

@@ -1,0 +1,11 @@
+use Rattle.c_source.proofs.Unique.{one_text, one_fault, not_both}
+use Rattle.c_source.proofs.source_laws.Goals as goal
+
+pub returns-clause-one_text : goal.returns-clause-one_text
+returns-clause-one_text c = one_text
+
+pub returns-clause-one_fault : goal.returns-clause-one_fault
+returns-clause-one_fault c = one_fault
+
+pub returns-clause-not_both : goal.returns-clause-not_both
+returns-clause-not_both c = not_both

@@ -1,3 +1,0 @@
-pub mod Longest
-pub mod Numbers
-pub mod Goes

@@ -1,5 +1,0 @@
-use Rattle.std.proofs.Common.{rules, below_more}
-use Rattle.first_lexer.proofs.name_length.Goals as goal
-
-pub loop-i-preserved : goal.loop-i-preserved
-loop-i-preserved c = below_more _ _ c.loop-i.invariant (search rules)

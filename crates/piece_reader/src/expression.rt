@@ -1,0 +1,80 @@
+//! An expression of code by itself.
+
+ghost use Rattle.std.specs.Prelude.{◌≡◌, ℕ, ◌<◌, ◌≤◌, List, drop, length, IfOk, IfErr};
+ghost use Rattle.ebnf.specs.Derives.{IsPhrase, next};
+ghost use Rattle.ebnf.specs.Sets.{has};
+ghost use Rattle.ebnf.specs.Verdict.{HasEnd};
+ghost use Rattle.c_syntax.specs.Expressions.{Exp};
+ghost use Rattle.c_syntax.specs.Faults.{first_token};
+ghost use Rattle.c_syntax.specs.Language.{begins, language};
+ghost use Rattle.c_syntax.specs.Lexing.{Lexeme};
+ghost use Rattle.c_syntax.specs.Views.{exp};
+ghost use Rattle.expr_reader.specs.Reading.{lexemes};
+ghost use Rattle.piece_reader.specs.Pieces as spec;
+ghost use Rattle.piece_reader.specs.Pieces.{IsExpression, IsFaultOrMemory, IsFoundOrMemory};
+
+use c_source::fault::SourceFault;
+use c_syntax::expressions::Expr;
+use c_syntax::token::{Span, Token};
+use expr_reader::expressions::expression;
+use expr_reader::levels::{Mode, Tier};
+use expr_reader::reading::ReadFault;
+use sides::calls::begins_code;
+use std::alloc::Global;
+
+/// How high an item may be.
+const MOST_LEVELS: u32 = 200;
+
+/// The place of the first of these tokens.
+fn first_place<'a>(tokens: &'a [Token<'a>]) -> Span
+    ensures { result ≡ (first_token (lexemes tokens.now)).place }
+{
+    match tokens.first() {
+        Some(first) => first.span,
+        None => Span { line: 1, column: 1 },
+    }
+}
+
+/// The fault of tokens where there is no room for any expression.
+fn no_room<'a>(tokens: &'a [Token<'a>]) -> SourceFault
+    requires { HasEnd language (lexemes tokens.now) }
+    ensures { IsFaultOrMemory 0 (lexemes tokens.now) result }
+{
+    let place = first_place(tokens);
+    if begins_code(tokens) {
+        SourceFault::TooDeep(place)
+    } else {
+        SourceFault::Unexpected(place)
+    }
+}
+
+/// The expression at the front of the tokens from this place on, with so many levels around it, and the place behind it: the
+/// longest list of tokens with which an expression begins. The last token is the end.
+pub fn read_expression<'a>(
+    alloc: Global,
+    tokens: &'a [Token<'a>],
+    at: usize,
+    above: u32,
+) -> Result<(Expr, usize), SourceFault>
+    requires end { HasEnd language (lexemes tokens.now) }
+    requires at { at < length tokens.now }
+    requires above { above ≤ 200 }
+    ensures found { IfOk result (λ x. IsExpression (spec.room_within above) (drop at (lexemes tokens.now)) (exp x.0) (drop x.1 (lexemes tokens.now))) }
+    ensures fault { IfErr result (IsFaultOrMemory (spec.room_within above) (drop at (lexemes tokens.now))) }
+    // Where an expression stands there that is low enough, it is found.
+    ensures only { (e : Exp) (h : ℕ) (rest : List Lexeme) → IsPhrase language spec.code_expression (drop at (lexemes tokens.now)) e h rest → h ≤ spec.room_within above → IsFoundOrMemory (lexemes tokens.now) e rest result }
+{
+    let (_, here) = tokens.split_at(at);
+    if above == MOST_LEVELS {
+        return Err(no_room(here));
+    }
+    match expression(alloc, Mode::Code, Tier::Choice, MOST_LEVELS - above, here) {
+        Ok(found) => {
+            let place = tokens.len().saturating_sub(found.rest.len());
+            Ok((found.value, place))
+        }
+        Err(ReadFault::Unexpected(rest)) => Err(SourceFault::Unexpected(first_place(rest))),
+        Err(ReadFault::TooDeep(rest)) => Err(SourceFault::TooDeep(first_place(rest))),
+        Err(ReadFault::OutOfMemory) => Err(SourceFault::OutOfMemory),
+    }
+}

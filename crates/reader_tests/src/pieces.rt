@@ -1,0 +1,82 @@
+//! Expressions at the front of texts.
+
+use c_source::fault::SourceFault;
+use c_syntax::token::Span;
+use piece_reader::read_expression;
+use std::alloc::Global;
+use std::test::Fail;
+use vcc_lexer::tokens;
+
+/// How many tokens are read, or the fault.
+#[derive(Clone, Copy, Debug, PartialEq, Eq)]
+enum Answer {
+    Behind(usize),
+    Unexpected(u32),
+    TooDeep(u32),
+    Other,
+}
+
+/// Texts, the token from which on an expression is read, and how many levels stand around it; and the place behind the
+/// expression, or the column of the fault.
+const ROWS: &[(&str, usize, u32, Answer)] = &[
+    ("a + b * c;", 0, 0, Answer::Behind(5)),
+    ("a b", 0, 0, Answer::Behind(1)),
+    ("a", 0, 0, Answer::Behind(1)),
+    ("x = a + b;", 2, 0, Answer::Behind(5)),
+    ("x = a + b;", 4, 0, Answer::Behind(5)),
+    ("a ? b : c d", 0, 0, Answer::Behind(5)),
+    ("a ? b ? c : d : e }", 0, 0, Answer::Behind(9)),
+    ("f(x)", 0, 0, Answer::Behind(1)),
+    ("a->b.c", 0, 0, Answer::Behind(3)),
+    ("!-a == (b) && c = d", 0, 0, Answer::Behind(9)),
+    ("a ==> b", 0, 0, Answer::Behind(1)),
+    ("a \\in b", 0, 0, Answer::Behind(1)),
+    ("a +", 0, 0, Answer::Unexpected(4)),
+    ("a + ;", 0, 0, Answer::Unexpected(5)),
+    ("+ a", 0, 0, Answer::Unexpected(1)),
+    ("", 0, 0, Answer::Unexpected(1)),
+    ("(a", 0, 0, Answer::Unexpected(3)),
+    ("(a ==> b)", 0, 0, Answer::Unexpected(4)),
+    ("a ? b", 0, 0, Answer::Unexpected(6)),
+    ("a-> 1", 0, 0, Answer::Unexpected(5)),
+    ("\\true", 0, 0, Answer::Unexpected(1)),
+    ("a", 0, 199, Answer::Behind(1)),
+    ("a + b", 0, 199, Answer::TooDeep(3)),
+    ("(a)", 0, 199, Answer::TooDeep(1)),
+    ("(a)", 0, 198, Answer::Behind(3)),
+    ("((a))", 0, 198, Answer::TooDeep(2)),
+    ("a", 0, 200, Answer::TooDeep(1)),
+    (";", 0, 200, Answer::Unexpected(1)),
+    ("-", 0, 200, Answer::TooDeep(1)),
+];
+
+/// What is read of a text from this token on.
+#[tactic(auto, using(c_source::proofs::Ends::has_end))]
+fn answered(alloc: Global, text: &str, at: usize, above: u32) -> Answer {
+    let bytes = text.as_bytes();
+    if bytes.len() > 1000 || above > 200 {
+        return Answer::Other;
+    }
+    let tokens = match tokens(alloc, bytes) {
+        Ok(tokens) => tokens,
+        Err(_) => return Answer::Other,
+    };
+    if at >= tokens.len() {
+        return Answer::Other;
+    }
+    match read_expression(alloc, tokens.as_slice(), at, above) {
+        Ok((_, behind)) => Answer::Behind(behind),
+        Err(SourceFault::Unexpected(Span { line: 1, column })) => Answer::Unexpected(column),
+        Err(SourceFault::TooDeep(Span { line: 1, column })) => Answer::TooDeep(column),
+        Err(_) => Answer::Other,
+    }
+}
+
+#[test]
+fn rows(rt: HostRuntime) -> Result<(), Fail> {
+    for (text, at, above, want) in ROWS {
+        let got = answered(rt.alloc(), text, *at, *above);
+        assert_eq!(rt; got, *want, "for {text} from {at} on within {above}");
+    }
+    Ok(())
+}

@@ -1,0 +1,5 @@
+pub mod Lists
+pub mod Vectors
+pub mod Measures
+pub mod HeightRows
+pub mod PartRows

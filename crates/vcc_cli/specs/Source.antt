@@ -1,0 +1,36 @@
+-- What a source is refused for.
+use Rattle.std.specs.Prelude.{ℕ, List}
+use Rattle.c_syntax.specs.declared.token.Span.{Span}
+use Rattle.c_syntax.specs.Items.{Item}
+use Rattle.c_source.specs.declared.fault.SourceFault.TheVariants as f
+use Rattle.c_source.specs.Sources.{IsText, IsWithinLimits, IsFault}
+use Rattle.first_form.specs.Tree.{Prog}
+use Rattle.first_program.specs.Reads.{IsFirstForm}
+use Rattle.vcc_base.specs.declared.limit.Limit.TheVariants.{Tokens, Depth}
+use Rattle.vcc_cli.specs.declared.refusal.Refusal.{Refusal}
+use Rattle.vcc_cli.specs.declared.refusal.Refusal.TheVariants.{BadByte, BadNumber, OpenComment, Unexpected, UnknownForm, NotBuilt, Limit, OutOfMemory}
+
+-- the bytes are items of the language, within the limits, and no program of the form that is judged so far
+pub record IsUnbuilt (source : List ℕ) : Type 0 where
+  pub items : List Item
+  pub end : Span
+  pub text : IsText source items end
+  pub within : IsWithinLimits text
+  pub other : (p : Prog) → IsFirstForm source p → ⊥
+
+-- The bytes have this first fault at this place; or they are of no form that is judged so far.
+abbrev pub IsSourceRefusal : List ℕ → Refusal → Type 0
+IsSourceRefusal source (BadByte place) = IsFault source (f.BadByte place)
+IsSourceRefusal source (BadNumber place) = IsFault source (f.BadNumber place)
+IsSourceRefusal source (OpenComment place) = IsFault source (f.OpenComment place)
+IsSourceRefusal source (Limit Tokens) = (place : Span) × IsFault source (f.TooManyTokens place)
+IsSourceRefusal source (Unexpected place) = IsFault source (f.Unexpected place)
+IsSourceRefusal source (UnknownForm place) = IsFault source (f.UnknownForm place)
+IsSourceRefusal source (Limit Depth) = (place : Span) × IsFault source (f.TooDeep place)
+IsSourceRefusal source NotBuilt = IsUnbuilt source
+IsSourceRefusal source _ = ⊥
+
+-- the same, or memory is wanted
+abbrev pub IsSourceRefusalOrMemory : List ℕ → Refusal → Type 0
+IsSourceRefusalOrMemory source OutOfMemory = Unit {0}
+IsSourceRefusalOrMemory source refusal = IsSourceRefusal source refusal
