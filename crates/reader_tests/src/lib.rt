@@ -4,13 +4,13 @@
 #[cfg(test)]
 mod annotations;
 #[cfg(test)]
+mod both_sides;
+#[cfg(test)]
 mod heights;
 #[cfg(test)]
 mod items;
 #[cfg(test)]
 mod pieces;
-#[cfg(test)]
-mod both_sides;
 #[cfg(test)]
 mod sources;
 #[cfg(test)]
