@@ -54,7 +54,7 @@ fn disjunction(alloc: Global, left: Test, right: Test) -> Result<Test, FormFault
 }
 
 /// `!` in front of brackets.
-#[cycle(test)]
+#[cycle(truth)]
 fn negation(alloc: Global, names: &[Vec<u8>], operand: &Expr) -> Result<Test, FormFault>
     requires { length names.now < 2 ^ 32 }
     ensures form { IsForm bool_exp result (spec.negated (names_of names.now) (exp operand.now)) }
@@ -70,7 +70,7 @@ fn negation(alloc: Global, names: &[Vec<u8>], operand: &Expr) -> Result<Test, Fo
 }
 
 /// A pair of brackets.
-#[cycle(test)]
+#[cycle(truth)]
 fn group(alloc: Global, names: &[Vec<u8>], inner: &Expr) -> Result<Test, FormFault>
     requires { length names.now < 2 ^ 32 }
     ensures form { IsForm bool_exp result (option_map Group (spec.test (names_of names.now) (exp inner.now))) }
@@ -81,7 +81,7 @@ fn group(alloc: Global, names: &[Vec<u8>], inner: &Expr) -> Result<Test, FormFau
 }
 
 /// The test that an expression is.
-#[cycle(test)]
+#[cycle(truth)]
 pub fn test(alloc: Global, names: &[Vec<u8>], expr: &Expr) -> Result<Test, FormFault>
     requires { length names.now < 2 ^ 32 }
     ensures form { IsForm bool_exp result (spec.test (names_of names.now) (exp expr.now)) }
