@@ -72,6 +72,11 @@ pub data N : Type 0 where
   GhostOther : N
   SetStart : N
   OwnedSet : N
+  -- a quantifier right of `\in`, its body, what the body joins, and what stands left of an `\in` there
+  SetQuantifier : N
+  SetBody : N
+  Membership : N
+  Element : N
   InterlockedCall : N
   Allocation : N
   GhostArgument : N
@@ -112,6 +117,10 @@ V GhostName = Exp
 V GhostOther = Exp
 V SetStart = Exp
 V OwnedSet = Exp
+V SetQuantifier = Exp
+V SetBody = Exp
+V Membership = Exp
+V Element = Exp
 V InterlockedCall = Inter × Option Comparison
 V Allocation = Span × Id
 V GhostArgument = Exp
@@ -423,9 +432,56 @@ ghost_name = chain named is_no_owns ghost_arrow apply_to
 abbrev pub ghost_other : R Exp
 ghost_other = chain (after_arrow (below Unnamed (λ x. x)) ghost_arrow) is_no_owns ghost_arrow apply_to
 
--- what stands right of `\in` begins with a primary; a quantifier isn't one here
+-- a primary of a spec that is no quantifier
+abbrev pub set_primary : R Exp
+set_primary = pick named (pick (unnamed InSpec) spec_word)
+
+-- A quantifier right of `\in`: an arrow has to follow it, so its body joins memberships alone, which no arrow goes on with.
+abbrev pub set_quantified : (class : ℕ) → Quantifier → R Exp
+set_quantified class q = form (word class ▷ gtype ▷ name ▷ word (sign s.Semicolon) ▷ below SetBody (λ x. x) ▷ nothing (λ x m n ty o. e.Quantified o q ty.1 n x))
+
+abbrev pub set_quantifier : R Exp
+set_quantifier = pick (set_quantified (spec w.Forall) quantifiers.ForAll) (set_quantified (spec w.Exists) quantifiers.Exists)
+
+-- what stands right of `\in` begins with a primary
 abbrev pub set_start : R Exp
-set_start = pick named (pick (unnamed InSpec) spec_word)
+set_start = pick set_primary set_quantifier
+
+-- an arrow, and what it leaves an expression with
+abbrev pub spec_arrow : P (Exp → Exp)
+spec_arrow = word (sign s.Arrow) ▷ suffix InSpec ▷ nothing (λ f o l. f o l)
+
+-- what stands left of an `\in` in such a body
+abbrev pub quantified_field : R Exp
+quantified_field = after_arrow (below SetQuantifier (λ x. x)) spec_arrow
+
+abbrev pub element_start : R Exp
+element_start = pick set_primary quantified_field
+
+abbrev pub element : R Exp
+element = chain element_start always spec_arrow apply_to
+
+-- an operator of such a body, with what stands right of it
+abbrev pub in_set : P (Exp → Exp)
+in_set = word (spec w.In) ▷ below OwnedSet (λ x. x) ▷ nothing (λ r p l. e.Binary p op.In l r)
+
+abbrev pub and_membership : P (Exp → Exp)
+and_membership = word (sign s.And) ▷ below Membership (λ x. x) ▷ nothing (λ r p l. e.Binary p op.And l r)
+
+abbrev pub implies_body : P (Exp → Exp)
+implies_body = word (sign s.Implies) ▷ below SetBody (λ x. x) ▷ nothing (λ r p l. e.Binary p op.Implies l r)
+
+abbrev pub first_membership : R Exp
+first_membership = after_arrow (below Element (λ x. x)) in_set
+
+abbrev pub memberships : R Exp
+memberships = chain first_membership always in_set apply_to
+
+abbrev pub set_conjunction : R Exp
+set_conjunction = chain memberships always and_membership apply_to
+
+abbrev pub set_body : R Exp
+set_body = chain set_conjunction always implies_body apply_to
 
 abbrev pub owned_set : R Exp
 owned_set = climb (below SetStart (λ x. x)) (sign s.Arrow) (suffix InSpec ▷ nothing (λ f o l. f o.place l)) (owns ▷ nothing (λ f o l. f o.place l))
@@ -781,6 +837,10 @@ rule GhostName = ghost_name
 rule GhostOther = ghost_other
 rule SetStart = set_start
 rule OwnedSet = owned_set
+rule SetQuantifier = set_quantifier
+rule SetBody = set_body
+rule Membership = memberships
+rule Element = element
 rule InterlockedCall = interlocked_call
 rule Allocation = allocation
 rule GhostArgument = ghost_argument

@@ -6,7 +6,7 @@ use Rattle.c_syntax.specs.declared.token.SpecWord.TheVariants as w
 use Rattle.c_syntax.specs.declared.token.Sign.TheVariants as s
 use Rattle.c_syntax.specs.Lexing.{Lexeme}
 use Rattle.c_syntax.specs.Classes.{key, spec, sign, class, of_class}
-use Rattle.c_syntax.specs.Grammar.{Mode, Code, InSpec, N, Level, Primary, Unnamed, Start, NamePlace, OtherPlace, AnyPlace, GhostName, GhostOther, SetStart, OwnedSet, InterlockedCall, Allocation, GhostArgument, Assigned, MakeClaim, GhostBody, GhostStatement, BlockOf, Statement, LoopItem, WritesOf, ClauseOf, MemberOf, ItemOf, Program, V, rule}
+use Rattle.c_syntax.specs.Grammar.{Mode, Code, InSpec, N, Level, Primary, Unnamed, Start, NamePlace, OtherPlace, AnyPlace, GhostName, GhostOther, SetStart, OwnedSet, SetQuantifier, SetBody, Membership, Element, InterlockedCall, Allocation, GhostArgument, Assigned, MakeClaim, GhostBody, GhostStatement, BlockOf, Statement, LoopItem, WritesOf, ClauseOf, MemberOf, ItemOf, Program, V, rule}
 
 -- the least heights
 abbrev pub least : N → ℕ
@@ -21,6 +21,10 @@ least GhostName = 1
 least GhostOther = 2
 least SetStart = 1
 least OwnedSet = 2
+least SetQuantifier = 4
+least SetBody = 3
+least Membership = 3
+least Element = 1
 least InterlockedCall = 3
 least Allocation = 2
 least GhostArgument = 2
@@ -46,9 +50,12 @@ abbrev set_begins : List ℕ
 set_begins =
     1 ∷ 2 ∷ key k.Null ∷ sign s.Open ∷ spec w.True ∷ spec w.False ∷ spec w.This ∷ spec w.Me ∷ spec w.Result ∷ spec w.Old ∷ spec w.Unchanged ∷ spec w.Wrapped ∷ spec w.WrappedUnclaimed ∷ spec w.Mutable ∷ spec w.Fresh ∷ spec w.Mine ∷ spec w.ClaimsObject ∷ spec w.Claims ∷ []
 
+abbrev quantifier_begins : List ℕ
+quantifier_begins = spec w.Forall ∷ spec w.Exists ∷ []
+
 abbrev primary_begins : Mode → List ℕ
 primary_begins Code = 1 ∷ unnamed_begins
-primary_begins InSpec = set_begins ++ (spec w.Forall ∷ spec w.Exists ∷ [])
+primary_begins InSpec = set_begins ++ quantifier_begins
 
 abbrev level_begins : Mode → List ℕ
 level_begins m = sign s.Not ∷ sign s.Minus ∷ primary_begins m
@@ -77,8 +84,12 @@ begins OtherPlace = unnamed_begins
 begins AnyPlace = primary_begins Code
 begins GhostName = 1 ∷ []
 begins GhostOther = unnamed_begins
-begins SetStart = set_begins
-begins OwnedSet = set_begins
+begins SetStart = primary_begins InSpec
+begins OwnedSet = primary_begins InSpec
+begins SetQuantifier = quantifier_begins
+begins SetBody = primary_begins InSpec
+begins Membership = primary_begins InSpec
+begins Element = primary_begins InSpec
 begins InterlockedCall = key k.CompareExchange ∷ key k.Exchange ∷ key k.Increment ∷ key k.Decrement ∷ []
 begins Allocation = key k.Malloc ∷ []
 begins GhostArgument = sign s.Annotation ∷ []
@@ -109,6 +120,10 @@ abbrev primary_goes : Mode → List ℕ
 primary_goes Code = []
 primary_goes InSpec = operators InSpec
 
+-- those of a body right of `\in`
+abbrev set_operators : List ℕ
+set_operators = spec w.In ∷ sign s.And ∷ sign s.Implies ∷ []
+
 abbrev pub goes : N → List ℕ
 goes (Level m l) = operators m
 goes (Primary m) = primary_goes m
@@ -119,8 +134,12 @@ goes OtherPlace = sign s.Arrow ∷ []
 goes AnyPlace = sign s.Arrow ∷ []
 goes GhostName = sign s.Arrow ∷ []
 goes GhostOther = sign s.Arrow ∷ []
-goes SetStart = []
+goes SetStart = set_operators
 goes OwnedSet = []
+goes SetQuantifier = set_operators
+goes SetBody = set_operators
+goes Membership = spec w.In ∷ []
+goes Element = sign s.Arrow ∷ []
 goes InterlockedCall = code_operators
 goes Allocation = []
 goes GhostArgument = []
@@ -150,6 +169,10 @@ rank GhostName = 0
 rank GhostOther = 1
 rank SetStart = 0
 rank OwnedSet = 1
+rank SetQuantifier = 0
+rank SetBody = 2
+rank Membership = 2
+rank Element = 1
 rank InterlockedCall = 0
 rank Allocation = 0
 rank GhostArgument = 0

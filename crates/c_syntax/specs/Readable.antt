@@ -13,7 +13,7 @@ use Rattle.c_syntax.specs.Tokens.{Mark}
 use Rattle.c_syntax.specs.Lexing.{Lexeme}
 use Rattle.c_syntax.specs.Statements.{Inv, Stm}
 use Rattle.c_syntax.specs.Statements as st
-use Rattle.c_syntax.specs.Grammar.{Mode, Code, InSpec, Prefix, Product, Sum, Order, Equality, Conjunction, Disjunction, Choice, Implication, Equivalence, N, Level, Primary, Unnamed, Start, NamePlace, OtherPlace, AnyPlace, GhostName, GhostOther, SetStart, OwnedSet, InterlockedCall, Allocation, GhostArgument, Assigned, MakeClaim, GhostBody, GhostStatement, BlockOf, Statement, LoopItem, WritesOf, ClauseOf, MemberOf, ItemOf, Program, rule}
+use Rattle.c_syntax.specs.Grammar.{Mode, Code, InSpec, Prefix, Product, Sum, Order, Equality, Conjunction, Disjunction, Choice, Implication, Equivalence, N, Level, Primary, Unnamed, Start, NamePlace, OtherPlace, AnyPlace, GhostName, GhostOther, SetStart, OwnedSet, SetQuantifier, SetBody, Membership, Element, InterlockedCall, Allocation, GhostArgument, Assigned, MakeClaim, GhostBody, GhostStatement, BlockOf, Statement, LoopItem, WritesOf, ClauseOf, MemberOf, ItemOf, Program, rule}
 use Rattle.c_syntax.specs.Language.{language, least, begins, goes, rank}
 
 -- ---- a test of all nonterminals
@@ -22,7 +22,7 @@ abbrev levels : Mode → List N
 levels m = Level m Prefix ∷ Level m Product ∷ Level m Sum ∷ Level m Order ∷ Level m Equality ∷ Level m Conjunction ∷ Level m Disjunction ∷ Level m Choice ∷ Level m Implication ∷ Level m Equivalence ∷ Primary m ∷ []
 
 abbrev others : List N
-others = Unnamed ∷ Start ∷ NamePlace ∷ OtherPlace ∷ AnyPlace ∷ GhostName ∷ GhostOther ∷ SetStart ∷ OwnedSet ∷ InterlockedCall ∷ Allocation ∷ GhostArgument ∷ Assigned ∷ MakeClaim ∷ GhostBody ∷ GhostStatement ∷ BlockOf ∷ Statement ∷ LoopItem ∷ WritesOf ∷ ClauseOf ∷ MemberOf ∷ ItemOf ∷ Program ∷ []
+others = Unnamed ∷ Start ∷ NamePlace ∷ OtherPlace ∷ AnyPlace ∷ GhostName ∷ GhostOther ∷ SetStart ∷ OwnedSet ∷ SetQuantifier ∷ SetBody ∷ Membership ∷ Element ∷ InterlockedCall ∷ Allocation ∷ GhostArgument ∷ Assigned ∷ MakeClaim ∷ GhostBody ∷ GhostStatement ∷ BlockOf ∷ Statement ∷ LoopItem ∷ WritesOf ∷ ClauseOf ∷ MemberOf ∷ ItemOf ∷ Program ∷ []
 
 abbrev every : (N → Bool) → Bool
 every f = list_all f (levels Code) && (list_all f (levels InSpec) && list_all f others)
@@ -39,7 +39,7 @@ each f h n = go n
     rest = and_right (list_all f (levels InSpec)) _ (and_right (list_all f (levels Code)) _ h)
 
     last : f Program ≡ true
-    last = at f others 23 (Unnamed) rest (and_left (f Unnamed) _ rest)
+    last = at f others 27 (Unnamed) rest (and_left (f Unnamed) _ rest)
 
     other : (i : ℕ) → f (slice_index_or others i Program) ≡ true
     other i = at f others i Program rest last
@@ -72,21 +72,25 @@ each f h n = go n
     go GhostOther = other 6
     go SetStart = other 7
     go OwnedSet = other 8
-    go InterlockedCall = other 9
-    go Allocation = other 10
-    go GhostArgument = other 11
-    go Assigned = other 12
-    go MakeClaim = other 13
-    go GhostBody = other 14
-    go GhostStatement = other 15
-    go BlockOf = other 16
-    go Statement = other 17
-    go LoopItem = other 18
-    go WritesOf = other 19
-    go ClauseOf = other 20
-    go MemberOf = other 21
-    go ItemOf = other 22
-    go Program = other 23
+    go SetQuantifier = other 9
+    go SetBody = other 10
+    go Membership = other 11
+    go Element = other 12
+    go InterlockedCall = other 13
+    go Allocation = other 14
+    go GhostArgument = other 15
+    go Assigned = other 16
+    go MakeClaim = other 17
+    go GhostBody = other 18
+    go GhostStatement = other 19
+    go BlockOf = other 20
+    go Statement = other 21
+    go LoopItem = other 22
+    go WritesOf = other 23
+    go ClauseOf = other 24
+    go MemberOf = other 25
+    go ItemOf = other 26
+    go Program = other 27
 
 -- ---- lists of classes
 

@@ -15,6 +15,11 @@ use Rattle.c_syntax.specs.Language.{language}
 use Rattle.c_syntax.specs.Laws.{read_items}
 use Rattle.c_syntax.specs.Faults.{SyntaxFault, UnexpectedToken, UnknownForm, TooHigh, read_source}
 use Rattle.c_syntax.specs.declared.token.Span.{Span}
+use Rattle.c_syntax.specs.declared.tree.BinaryOperator.TheVariants as op
+use Rattle.c_syntax.specs.declared.tree.Quantifier.TheVariants as quantifiers
+use Rattle.c_syntax.specs.Expressions as e
+use Rattle.c_syntax.specs.Expressions.{Id}
+use Rattle.c_syntax.specs.Grammar.{Level, InSpec, Equivalence}
 
 -- words, each where the next comes, and the end
 abbrev placed : ℕ → List Word → List Lexeme
@@ -113,6 +118,22 @@ items =
     item 5 (Key k.Void ∷ name ∷ Mark s.Open ∷ Mark s.Close ∷ Mark s.BraceOpen ∷ Key k.If ∷ Mark s.Open ∷ name ∷ Mark s.Close ∷ Key k.If ∷ Mark s.Open ∷ name ∷ Mark s.Close ∷ Mark s.Semicolon ∷ Key k.Else ∷ Mark s.Semicolon ∷ Mark s.BraceClose ∷ []) ∷
     -- void f() { _(assert p \in q->\owns) }
     item 6 (Key k.Void ∷ name ∷ Mark s.Open ∷ Mark s.Close ∷ Mark s.BraceOpen ∷ Mark s.Annotation ∷ Key k.Assert ∷ name ∷ Spec w.In ∷ name ∷ Mark s.Arrow ∷ Spec w.Owns ∷ Mark s.Close ∷ Mark s.BraceClose ∷ []) ∷
+    -- void f() { _(assert p \in \forall \object q; q \in a->\owns->\owns) }
+    item 9 (Key k.Void ∷ name ∷ Mark s.Open ∷ Mark s.Close ∷ Mark s.BraceOpen ∷ Mark s.Annotation ∷ Key k.Assert ∷ name ∷ Spec w.In ∷ Spec w.Forall ∷ Spec w.Object ∷ name ∷ Mark s.Semicolon ∷ name ∷ Spec w.In ∷ name ∷ Mark s.Arrow ∷ Spec w.Owns ∷ Mark s.Arrow ∷ Spec w.Owns ∷ Mark s.Close ∷ Mark s.BraceClose ∷ []) ∷
+    -- void f() { _(assert p \in \exists int i; q \in a->\owns \in b->\owns->\owns) }
+    item 10 (Key k.Void ∷ name ∷ Mark s.Open ∷ Mark s.Close ∷ Mark s.BraceOpen ∷ Mark s.Annotation ∷ Key k.Assert ∷ name ∷ Spec w.In ∷ Spec w.Exists ∷ Key k.Int ∷ name ∷ Mark s.Semicolon ∷ name ∷ Spec w.In ∷ name ∷ Mark s.Arrow ∷ Spec w.Owns ∷ Spec w.In ∷ name ∷ Mark s.Arrow ∷ Spec w.Owns ∷ Mark s.Arrow ∷ Spec w.Owns ∷ Mark s.Close ∷ Mark s.BraceClose ∷ []) ∷
+    -- void f() { _(assert p \in \forall \object q; q \in (((a)))->\owns && r \in b->\owns && s \in c->\owns->\owns) }
+    item 14 (Key k.Void ∷ name ∷ Mark s.Open ∷ Mark s.Close ∷ Mark s.BraceOpen ∷ Mark s.Annotation ∷ Key k.Assert ∷ name ∷ Spec w.In ∷ Spec w.Forall ∷ Spec w.Object ∷ name ∷ Mark s.Semicolon ∷ name ∷ Spec w.In ∷ Mark s.Open ∷ Mark s.Open ∷ Mark s.Open ∷ name ∷ Mark s.Close ∷ Mark s.Close ∷ Mark s.Close ∷ Mark s.Arrow ∷ Spec w.Owns ∷ Mark s.And ∷ name ∷ Spec w.In ∷ name ∷ Mark s.Arrow ∷ Spec w.Owns ∷ Mark s.And ∷ name ∷ Spec w.In ∷ name ∷ Mark s.Arrow ∷ Spec w.Owns ∷ Mark s.Arrow ∷ Spec w.Owns ∷ Mark s.Close ∷ Mark s.BraceClose ∷ []) ∷
+    -- void f() { _(assert p \in \forall \object q; q \in (((a)))->\owns ==> r \in b->\owns ==> s \in c->\owns->\owns) }
+    item 13 (Key k.Void ∷ name ∷ Mark s.Open ∷ Mark s.Close ∷ Mark s.BraceOpen ∷ Mark s.Annotation ∷ Key k.Assert ∷ name ∷ Spec w.In ∷ Spec w.Forall ∷ Spec w.Object ∷ name ∷ Mark s.Semicolon ∷ name ∷ Spec w.In ∷ Mark s.Open ∷ Mark s.Open ∷ Mark s.Open ∷ name ∷ Mark s.Close ∷ Mark s.Close ∷ Mark s.Close ∷ Mark s.Arrow ∷ Spec w.Owns ∷ Mark s.Implies ∷ name ∷ Spec w.In ∷ name ∷ Mark s.Arrow ∷ Spec w.Owns ∷ Mark s.Implies ∷ name ∷ Spec w.In ∷ name ∷ Mark s.Arrow ∷ Spec w.Owns ∷ Mark s.Arrow ∷ Spec w.Owns ∷ Mark s.Close ∷ Mark s.BraceClose ∷ []) ∷
+    -- void f() { _(assert p \in \forall \object q; q->x \in a->\owns && r \in b->\owns ==> s \in c->\owns->\owns) }
+    item 11 (Key k.Void ∷ name ∷ Mark s.Open ∷ Mark s.Close ∷ Mark s.BraceOpen ∷ Mark s.Annotation ∷ Key k.Assert ∷ name ∷ Spec w.In ∷ Spec w.Forall ∷ Spec w.Object ∷ name ∷ Mark s.Semicolon ∷ name ∷ Mark s.Arrow ∷ name ∷ Spec w.In ∷ name ∷ Mark s.Arrow ∷ Spec w.Owns ∷ Mark s.And ∷ name ∷ Spec w.In ∷ name ∷ Mark s.Arrow ∷ Spec w.Owns ∷ Mark s.Implies ∷ name ∷ Spec w.In ∷ name ∷ Mark s.Arrow ∷ Spec w.Owns ∷ Mark s.Arrow ∷ Spec w.Owns ∷ Mark s.Close ∷ Mark s.BraceClose ∷ []) ∷
+    -- void f() { _(assert p \in \forall \object q; q \in \exists \object r; r \in a->\owns->\owns->\owns) }
+    item 12 (Key k.Void ∷ name ∷ Mark s.Open ∷ Mark s.Close ∷ Mark s.BraceOpen ∷ Mark s.Annotation ∷ Key k.Assert ∷ name ∷ Spec w.In ∷ Spec w.Forall ∷ Spec w.Object ∷ name ∷ Mark s.Semicolon ∷ name ∷ Spec w.In ∷ Spec w.Exists ∷ Spec w.Object ∷ name ∷ Mark s.Semicolon ∷ name ∷ Spec w.In ∷ name ∷ Mark s.Arrow ∷ Spec w.Owns ∷ Mark s.Arrow ∷ Spec w.Owns ∷ Mark s.Arrow ∷ Spec w.Owns ∷ Mark s.Close ∷ Mark s.BraceClose ∷ []) ∷
+    -- void f() { _(assert p \in \forall \object q; \exists \object r; r \in a->\owns->x \in b->\owns->\owns) }
+    item 12 (Key k.Void ∷ name ∷ Mark s.Open ∷ Mark s.Close ∷ Mark s.BraceOpen ∷ Mark s.Annotation ∷ Key k.Assert ∷ name ∷ Spec w.In ∷ Spec w.Forall ∷ Spec w.Object ∷ name ∷ Mark s.Semicolon ∷ Spec w.Exists ∷ Spec w.Object ∷ name ∷ Mark s.Semicolon ∷ name ∷ Spec w.In ∷ name ∷ Mark s.Arrow ∷ Spec w.Owns ∷ Mark s.Arrow ∷ name ∷ Spec w.In ∷ name ∷ Mark s.Arrow ∷ Spec w.Owns ∷ Mark s.Arrow ∷ Spec w.Owns ∷ Mark s.Close ∷ Mark s.BraceClose ∷ []) ∷
+    -- void f() { _(assert p \in \forall \object q; q \in a->\owns->\owner->\owns && r) }
+    item 11 (Key k.Void ∷ name ∷ Mark s.Open ∷ Mark s.Close ∷ Mark s.BraceOpen ∷ Mark s.Annotation ∷ Key k.Assert ∷ name ∷ Spec w.In ∷ Spec w.Forall ∷ Spec w.Object ∷ name ∷ Mark s.Semicolon ∷ name ∷ Spec w.In ∷ name ∷ Mark s.Arrow ∷ Spec w.Owns ∷ Mark s.Arrow ∷ Spec w.Owner ∷ Mark s.Arrow ∷ Spec w.Owns ∷ Mark s.And ∷ name ∷ Mark s.Close ∷ Mark s.BraceClose ∷ []) ∷
     -- void f() { _(assert \forall \object o; o \in p->\owns ==> \mine(o)) }
     item 8 (Key k.Void ∷ name ∷ Mark s.Open ∷ Mark s.Close ∷ Mark s.BraceOpen ∷ Mark s.Annotation ∷ Key k.Assert ∷ Spec w.Forall ∷ Spec w.Object ∷ name ∷ Mark s.Semicolon ∷ name ∷ Spec w.In ∷ name ∷ Mark s.Arrow ∷ Spec w.Owns ∷ Mark s.Implies ∷ Spec w.Mine ∷ Mark s.Open ∷ name ∷ Mark s.Close ∷ Mark s.Close ∷ Mark s.BraceClose ∷ []) ∷
     -- void f() { _(ghost p->\owns += { q, r }) }
@@ -373,6 +394,22 @@ faults =
     unexpected (Key k.Void ∷ name ∷ Mark s.Open ∷ Mark s.Close ∷ Mark s.BraceOpen ∷ Mark s.Annotation ∷ Key k.Assert ∷ name ∷ Spec w.In ∷ name ∷ []) (Mark s.Close ∷ Mark s.BraceClose ∷ []) ∷
     -- void f() { _(assert p \in q->x^) }
     unexpected (Key k.Void ∷ name ∷ Mark s.Open ∷ Mark s.Close ∷ Mark s.BraceOpen ∷ Mark s.Annotation ∷ Key k.Assert ∷ name ∷ Spec w.In ∷ name ∷ Mark s.Arrow ∷ name ∷ []) (Mark s.Close ∷ Mark s.BraceClose ∷ []) ∷
+    -- void f() { _(assert p \in \forall \object q; q->^\owns) }
+    unexpected (Key k.Void ∷ name ∷ Mark s.Open ∷ Mark s.Close ∷ Mark s.BraceOpen ∷ Mark s.Annotation ∷ Key k.Assert ∷ name ∷ Spec w.In ∷ Spec w.Forall ∷ Spec w.Object ∷ name ∷ Mark s.Semicolon ∷ name ∷ Mark s.Arrow ∷ []) (Spec w.Owns ∷ Mark s.Close ∷ Mark s.BraceClose ∷ []) ∷
+    -- void f() { _(assert p \in \forall \object q; q^) }
+    unexpected (Key k.Void ∷ name ∷ Mark s.Open ∷ Mark s.Close ∷ Mark s.BraceOpen ∷ Mark s.Annotation ∷ Key k.Assert ∷ name ∷ Spec w.In ∷ Spec w.Forall ∷ Spec w.Object ∷ name ∷ Mark s.Semicolon ∷ name ∷ []) (Mark s.Close ∷ Mark s.BraceClose ∷ []) ∷
+    -- void f() { _(assert p \in \forall \object q; q ^== r && q \in a->\owns->\owns) }
+    unexpected (Key k.Void ∷ name ∷ Mark s.Open ∷ Mark s.Close ∷ Mark s.BraceOpen ∷ Mark s.Annotation ∷ Key k.Assert ∷ name ∷ Spec w.In ∷ Spec w.Forall ∷ Spec w.Object ∷ name ∷ Mark s.Semicolon ∷ name ∷ []) (Mark s.Equal ∷ name ∷ Mark s.And ∷ name ∷ Spec w.In ∷ name ∷ Mark s.Arrow ∷ Spec w.Owns ∷ Mark s.Arrow ∷ Spec w.Owns ∷ Mark s.Close ∷ Mark s.BraceClose ∷ []) ∷
+    -- void f() { _(assert p \in \forall \object q; ^!q) }
+    unexpected (Key k.Void ∷ name ∷ Mark s.Open ∷ Mark s.Close ∷ Mark s.BraceOpen ∷ Mark s.Annotation ∷ Key k.Assert ∷ name ∷ Spec w.In ∷ Spec w.Forall ∷ Spec w.Object ∷ name ∷ Mark s.Semicolon ∷ []) (Mark s.Not ∷ name ∷ Mark s.Close ∷ Mark s.BraceClose ∷ []) ∷
+    -- void f() { _(assert p \in \forall \object q; q \in a->\owns^) }
+    unexpected (Key k.Void ∷ name ∷ Mark s.Open ∷ Mark s.Close ∷ Mark s.BraceOpen ∷ Mark s.Annotation ∷ Key k.Assert ∷ name ∷ Spec w.In ∷ Spec w.Forall ∷ Spec w.Object ∷ name ∷ Mark s.Semicolon ∷ name ∷ Spec w.In ∷ name ∷ Mark s.Arrow ∷ Spec w.Owns ∷ []) (Mark s.Close ∷ Mark s.BraceClose ∷ []) ∷
+    -- void f() { _(assert p \in \forall \object q; q \in a->\owns ^|| r \in b->\owns->\owns) }
+    unexpected (Key k.Void ∷ name ∷ Mark s.Open ∷ Mark s.Close ∷ Mark s.BraceOpen ∷ Mark s.Annotation ∷ Key k.Assert ∷ name ∷ Spec w.In ∷ Spec w.Forall ∷ Spec w.Object ∷ name ∷ Mark s.Semicolon ∷ name ∷ Spec w.In ∷ name ∷ Mark s.Arrow ∷ Spec w.Owns ∷ []) (Mark s.Or ∷ name ∷ Spec w.In ∷ name ∷ Mark s.Arrow ∷ Spec w.Owns ∷ Mark s.Arrow ∷ Spec w.Owns ∷ Mark s.Close ∷ Mark s.BraceClose ∷ []) ∷
+    -- void f() { _(assert p \in \forall \object q; q \in a->\owns && r^) }
+    unexpected (Key k.Void ∷ name ∷ Mark s.Open ∷ Mark s.Close ∷ Mark s.BraceOpen ∷ Mark s.Annotation ∷ Key k.Assert ∷ name ∷ Spec w.In ∷ Spec w.Forall ∷ Spec w.Object ∷ name ∷ Mark s.Semicolon ∷ name ∷ Spec w.In ∷ name ∷ Mark s.Arrow ∷ Spec w.Owns ∷ Mark s.And ∷ name ∷ []) (Mark s.Close ∷ Mark s.BraceClose ∷ []) ∷
+    -- void f() { _(assert p \in \forall \object q; \exists \object r; r \in a->\owns->^\owns) }
+    unexpected (Key k.Void ∷ name ∷ Mark s.Open ∷ Mark s.Close ∷ Mark s.BraceOpen ∷ Mark s.Annotation ∷ Key k.Assert ∷ name ∷ Spec w.In ∷ Spec w.Forall ∷ Spec w.Object ∷ name ∷ Mark s.Semicolon ∷ Spec w.Exists ∷ Spec w.Object ∷ name ∷ Mark s.Semicolon ∷ name ∷ Spec w.In ∷ name ∷ Mark s.Arrow ∷ Spec w.Owns ∷ Mark s.Arrow ∷ []) (Spec w.Owns ∷ Mark s.Close ∷ Mark s.BraceClose ∷ []) ∷
     -- void f() { _(assert \forall int i^) }
     unexpected (Key k.Void ∷ name ∷ Mark s.Open ∷ Mark s.Close ∷ Mark s.BraceOpen ∷ Mark s.Annotation ∷ Key k.Assert ∷ Spec w.Forall ∷ Key k.Int ∷ name ∷ []) (Mark s.Close ∷ Mark s.BraceClose ∷ []) ∷
     -- void f() { _(assert \forall ^i; 1) }
@@ -450,6 +487,12 @@ deep =
     item 5 (brackets 1) ∷
     item 200 (brackets 196) ∷
     too_deep (Key k.Void ∷ name ∷ Mark s.Open ∷ Key k.Int ∷ name ∷ Mark s.Close ∷ Mark s.BraceOpen ∷ name ∷ Mark s.Assign ∷ times 196 (Mark s.Open) []) (Mark s.Open ∷ number ∷ times 197 (Mark s.Close) (Mark s.Semicolon ∷ Mark s.BraceClose ∷ [])) ∷
+    -- void f() { _(assert (..(p \in \forall \object q; q \in a->\owns->\owns)..)) }, of 191 brackets
+    item 200 (Key k.Void ∷ name ∷ Mark s.Open ∷ Mark s.Close ∷ Mark s.BraceOpen ∷ Mark s.Annotation ∷ Key k.Assert ∷ times 191 (Mark s.Open) (name ∷ Spec w.In ∷ Spec w.Forall ∷ Spec w.Object ∷ name ∷ Mark s.Semicolon ∷ name ∷ Spec w.In ∷ name ∷ Mark s.Arrow ∷ Spec w.Owns ∷ Mark s.Arrow ∷ Spec w.Owns ∷ times 192 (Mark s.Close) (Mark s.BraceClose ∷ []))) ∷
+    -- void f() { _(assert (..(p \in \forall \object q; q \in a->\owns ^&& r \in b->\owns->\owns)..)) }, of as many
+    too_deep (Key k.Void ∷ name ∷ Mark s.Open ∷ Mark s.Close ∷ Mark s.BraceOpen ∷ Mark s.Annotation ∷ Key k.Assert ∷ times 191 (Mark s.Open) (name ∷ Spec w.In ∷ Spec w.Forall ∷ Spec w.Object ∷ name ∷ Mark s.Semicolon ∷ name ∷ Spec w.In ∷ name ∷ Mark s.Arrow ∷ Spec w.Owns ∷ [])) (Mark s.And ∷ name ∷ Spec w.In ∷ name ∷ Mark s.Arrow ∷ Spec w.Owns ∷ Mark s.Arrow ∷ Spec w.Owns ∷ times 192 (Mark s.Close) (Mark s.BraceClose ∷ [])) ∷
+    -- void f() { _(assert (..(p \in ^\forall \object q; q \in a->\owns->\owns)..)) }, of one more
+    too_deep (Key k.Void ∷ name ∷ Mark s.Open ∷ Mark s.Close ∷ Mark s.BraceOpen ∷ Mark s.Annotation ∷ Key k.Assert ∷ times 192 (Mark s.Open) (name ∷ Spec w.In ∷ [])) (Spec w.Forall ∷ Spec w.Object ∷ name ∷ Mark s.Semicolon ∷ name ∷ Spec w.In ∷ name ∷ Mark s.Arrow ∷ Spec w.Owns ∷ Mark s.Arrow ∷ Spec w.Owns ∷ times 193 (Mark s.Close) (Mark s.BraceClose ∷ [])) ∷
     []
 
 -- A lock, its functions and two threads that use it: two structs and five functions.
@@ -517,3 +560,19 @@ lock_holds = refl
 deep_hold : list_all (λ b. b) deep ≡ true
 unfolding reads read links climbs read_rule first first_rule low low_rule is_empty
 deep_hold = refl
+
+-- ---- trees
+
+abbrev at : ℕ → Span
+at n = record { line = 1; column = n }
+
+abbrev id : ℕ → Id
+id n = record { place = at n; name = 97 ∷ [] }
+
+-- p \in \forall \object q; q \in a->\owns->\owns
+abbrev quantified : List Word
+quantified = name ∷ Spec w.In ∷ Spec w.Forall ∷ Spec w.Object ∷ name ∷ Mark s.Semicolon ∷ name ∷ Spec w.In ∷ name ∷ Mark s.Arrow ∷ Spec w.Owns ∷ Mark s.Arrow ∷ Spec w.Owns ∷ []
+
+quantified_holds : reads language 6 (Level InSpec Equivalence) (placed 1 quantified) ≡ Ok (e.Binary (at 2) op.In (e.Name (id 1)) (e.Owns (at 12) (e.Quantified (at 3) quantifiers.ForAll e.Object (id 5) (e.Binary (at 8) op.In (e.Name (id 7)) (e.Owns (at 10) (e.Name (id 9)) (at 11)))) (at 13)), 6, placed 14 [])
+unfolding reads read links climbs read_rule first first_rule low low_rule is_empty
+quantified_holds = refl
