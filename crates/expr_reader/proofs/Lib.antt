@@ -1,5 +1,6 @@
 pub mod Links
 pub mod Primaries
+pub mod SetBodies
 pub mod Chains
 pub mod Many
 pub mod Takes

@@ -217,13 +217,13 @@ postfix_in g.InSpec room ts false e a b = rw a (rw b (rw e (rw (primary_none g.I
 pub prefix_postfix : (m : g.Mode) (room : ℕ) (ts : List Lexeme) → (next language ts == sign s.Not) ≡ false → (next language ts == sign s.Minus) ≡ false → rule_at room (g.rule (g.Level m g.Prefix)) ts ≡ on language (rule_at room (g.primary m) ts) (λ l k rest. linked (suc room) room (arrow m) l k rest)
 prefix_postfix m room ts a b = postfix_in m room ts (has (first_rule language (g.primary m)) (next language ts)) refl a b
 
--- ---- what an owned set begins with
+-- ---- primaries that are no quantifier
 
-pub set_named : (room : ℕ) (ts : List Lexeme) → next language ts ≡ 1 → rule_at room g.set_start ts ≡ rule_at 0 g.named ts
+pub set_named : (room : ℕ) (ts : List Lexeme) → next language ts ≡ 1 → rule_at room g.set_primary ts ≡ rule_at 0 g.named ts
 unfolding read_rule first_rule first low_rule low is_empty read
 set_named room ts e = rw e (rw (fits_one room) refl)
 
-pub set_form : (x : Form) (room : ℕ) (ts : List Lexeme) → is_quantifier x ≡ false → next language ts ≡ class_of x → rule_at room g.set_start ts ≡ rule_at room (g.primary g.InSpec) ts
+pub set_form : (x : Form) (room : ℕ) (ts : List Lexeme) → is_quantifier x ≡ false → next language ts ≡ class_of x → rule_at room g.set_primary ts ≡ rule_at room (g.primary g.InSpec) ts
 unfolding read_rule first_rule first low_rule low is_empty
 set_form (f.Constant constants.True) room ts q e = rw e (rw (fits_one room) refl)
 set_form (f.Constant constants.False) room ts q e = rw e (rw (fits_one room) refl)
@@ -241,7 +241,7 @@ set_form (f.Pair pairs.ClaimsObject) room ts q e = rw e (rw (fits_one room) refl
 set_form (f.Pair pairs.Claims) room ts q e = rw e (rw (fits_one room) refl)
 set_form (f.Quantifier x) room ts q e = absurd (true_not_false _ refl q)
 
-pub set_other : (room : ℕ) (ts : List Lexeme) → (next language ts == 1) ≡ false → has (first_rule language g.spec_word) (next language ts) ≡ false → rule_at room g.set_start ts ≡ rule_at room (g.unnamed g.InSpec) ts
+pub set_other : (room : ℕ) (ts : List Lexeme) → (next language ts == 1) ≡ false → has (first_rule language g.spec_word) (next language ts) ≡ false → rule_at room g.set_primary ts ≡ rule_at room (g.unnamed g.InSpec) ts
 unfolding first_rule first low_rule low is_empty read_rule
 set_other room ts h none = pick_other g.named (g.unnamed g.InSpec) g.spec_word room ts (ap (λ b. b || false) h) (fits_one room) ∙ go (has (first_rule language (g.unnamed g.InSpec)) (next language ts)) refl
   where

@@ -1,5 +1,6 @@
 pub mod Reading
 pub mod Levels
 pub mod Forms
+pub mod Joints
 pub mod Suffixes
 pub mod Lists

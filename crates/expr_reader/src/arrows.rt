@@ -9,7 +9,7 @@ ghost use Rattle.c_syntax.specs.Grammar as g;
 ghost use Rattle.c_syntax.specs.Language.{language};
 ghost use Rattle.c_syntax.specs.Views.{id, exp};
 ghost use Rattle.expr_reader.specs.Levels as levels;
-ghost use Rattle.expr_reader.specs.Levels.{mode_of, linked, one_link};
+ghost use Rattle.expr_reader.specs.Levels.{mode_of, linked, joined, one_link};
 ghost use Rattle.expr_reader.specs.Suffixes as suffixes;
 ghost use Rattle.expr_reader.specs.Reading.{Gives, lexemes, part};
 
@@ -125,6 +125,25 @@ fn one_arrow<'a>(alloc: Global, mode: Mode, room: u32, left: Parsed<'a, Expr>) -
     fits(left.height.max(least(mode)), room, left.rest)?;
     let arrow = take(Sign::Arrow, left.rest)?;
     let behind = suffix_of(alloc, mode, room, arrow.rest)?;
+    let height = left.height.max(behind.height) + 1;
+    let held = boxed(alloc, left.value)?;
+    Ok(Parsed {
+        value: suffixed(behind.value, arrow.value, held),
+        height,
+        rest: behind.rest,
+    })
+}
+
+/// The arrow that has to come next, in an annotation.
+#[tactic(auto, unfolding(ebnf::specs::Reading::read))]
+pub fn first_arrow<'a>(alloc: Global, room: u32, left: Parsed<'a, Expr>) -> Reading<'a, Expr>
+    requires room { room < 1000 }
+    requires low { left.height ≤ room }
+    ensures gives { Gives exp result (joined (exp left.entry.value) left.entry.height (part room g.spec_arrow (lexemes left.entry.rest.now))) }
+    ensures low { IfOk result (λ x. x.height ≤ room + 1) }
+{
+    let arrow = take(Sign::Arrow, left.rest)?;
+    let behind = spec_suffix(alloc, room, arrow.rest)?;
     let height = left.height.max(behind.height) + 1;
     let held = boxed(alloc, left.value)?;
     Ok(Parsed {

@@ -10,14 +10,16 @@ ghost use Rattle.c_syntax.specs.Views.{id, exp, exps};
 ghost use Rattle.expr_reader.specs.Levels as levels;
 ghost use Rattle.expr_reader.specs.Levels.{mode_of, tier_of, level, link, linked, joined, one_link};
 ghost use Rattle.expr_reader.specs.Forms as forms;
+ghost use Rattle.expr_reader.specs.Joints as joints;
 ghost use Rattle.expr_reader.specs.Lists.{behind_comma};
 ghost use Rattle.expr_reader.specs.Reading.{Gives, lexemes, part, rule_at, extended, entered};
 
-use crate::arrows::{arrows, climb};
+use crate::arrows::{arrows, climb, first_arrow};
 use crate::forms::{
     Form, Pair, argument_tier, form_at, joined, least, mine_of, second_tier, set_form_at,
     word_of_function, word_of_pair, word_of_quantifier,
 };
+use crate::joints::{Joint, least_behind, next_joins, quantifier_at};
 use crate::leaves::{constant, named, null, number};
 use crate::levels::{Mode, Tier, below, is_link, is_prefix, operator_at, right, top};
 use crate::memory::{add, boxed, single};
@@ -516,14 +518,27 @@ fn set_start<'a>(alloc: Global, room: u32, tokens: &'a [Token<'a>]) -> Reading<'
     if room == 0 {
         return Err(ReadFault::TooDeep(tokens));
     }
-    set_primary(alloc, room - 1, tokens)
+    set_begun(alloc, room - 1, tokens)
+}
+
+/// A primary of an annotation that begins an owned set.
+#[cycle(expressions)]
+fn set_begun<'a>(alloc: Global, room: u32, tokens: &'a [Token<'a>]) -> Reading<'a, Expr>
+    requires room { room < 1000 }
+    ensures gives { Gives exp result (rule_at room g.set_start (lexemes tokens.now)) }
+    ensures low { IfOk result (λ x. x.height ≤ room + 1) }
+{
+    match quantifier_at(tokens) {
+        None => set_primary(alloc, room, tokens),
+        Some(quantifier) => set_quantifier(alloc, quantifier, room, tokens),
+    }
 }
 
 /// A primary of an annotation that is no quantifier.
 #[cycle(expressions)]
 fn set_primary<'a>(alloc: Global, room: u32, tokens: &'a [Token<'a>]) -> Reading<'a, Expr>
     requires room { room < 1000 }
-    ensures gives { Gives exp result (rule_at room g.set_start (lexemes tokens.now)) }
+    ensures gives { Gives exp result (rule_at room g.set_primary (lexemes tokens.now)) }
     ensures low { IfOk result (λ x. x.height ≤ room + 1) }
 {
     if next_is_name(tokens) {
@@ -533,4 +548,260 @@ fn set_primary<'a>(alloc: Global, room: u32, tokens: &'a [Token<'a>]) -> Reading
         None => unnamed(alloc, Mode::Spec, room, tokens),
         Some(form) => formed(alloc, form, room, tokens),
     }
+}
+
+/// The quantifier that comes next, right of `\in`.
+#[cycle(expressions)]
+fn set_quantifier<'a>(
+    alloc: Global,
+    quantifier: Quantifier,
+    room: u32,
+    tokens: &'a [Token<'a>],
+) -> Reading<'a, Expr>
+    requires room { room < 1000 }
+    requires here { next language (lexemes tokens.now) ≡ forms.quantifier_class quantifier }
+    ensures gives { Gives exp result (rule_at room g.set_quantifier (lexemes tokens.now)) }
+    ensures low { IfOk result (λ x. x.height ≤ room + 1) }
+{
+    fits(3, room, tokens)?;
+    set_quantified(alloc, quantifier, room, tokens)
+}
+
+/// A quantifier right of `\in`, with its body.
+#[cycle(expressions)]
+#[tactic(auto, unfolding(ebnf::specs::Reading::read, ebnf::specs::Reading::read_rule))]
+fn set_quantified<'a>(
+    alloc: Global,
+    quantifier: Quantifier,
+    room: u32,
+    tokens: &'a [Token<'a>],
+) -> Reading<'a, Expr>
+    requires room { room < 1000 }
+    requires fits { 0 < room }
+    ensures gives { Gives exp result (rule_at room (joints.quantified quantifier) (lexemes tokens.now)) }
+    ensures low { IfOk result (λ x. x.height ≤ room + 1) }
+{
+    let word = take_spec(word_of_quantifier(quantifier), tokens)?;
+    let ty = gtype(alloc, room, word.rest)?;
+    let name = take_name(alloc, 1, ty.rest)?;
+    let semicolon = take(Sign::Semicolon, name.rest)?;
+    let body = set_body(alloc, room, semicolon.rest)?;
+    let height = ty.height.max(name.height).max(body.height) + 1;
+    let held = boxed(alloc, body.value)?;
+    let (_, declared) = ty.value;
+    Ok(Parsed {
+        value: Expr::Quantified(word.value, quantifier, declared, name.value, held),
+        height,
+        rest: body.rest,
+    })
+}
+
+/// The body of a quantifier right of `\in`: memberships, `&&` between, and `==>` above.
+#[cycle(expressions)]
+fn set_body<'a>(alloc: Global, room: u32, tokens: &'a [Token<'a>]) -> Reading<'a, Expr>
+    requires room { room < 1000 }
+    ensures gives { Gives exp result (reads language room g.SetBody (lexemes tokens.now)) }
+    ensures low { IfOk result (λ x. x.height ≤ room) }
+{
+    if room == 0 {
+        return Err(ReadFault::TooDeep(tokens));
+    }
+    let left = set_conjunction(alloc, room - 1, tokens)?;
+    joined_behind(alloc, Joint::Implies, room - 1, left)
+}
+
+/// Memberships with `&&` between.
+#[cycle(expressions)]
+fn set_conjunction<'a>(alloc: Global, room: u32, tokens: &'a [Token<'a>]) -> Reading<'a, Expr>
+    requires room { room < 1000 }
+    ensures gives { Gives exp result (rule_at room g.set_conjunction (lexemes tokens.now)) }
+    ensures low { IfOk result (λ x. x.height ≤ room + 1) }
+{
+    let left = memberships(alloc, room, tokens)?;
+    joined_behind(alloc, Joint::And, room, left)
+}
+
+/// What `&&` joins in such a body.
+#[cycle(expressions)]
+fn membership_of<'a>(alloc: Global, room: u32, tokens: &'a [Token<'a>]) -> Reading<'a, Expr>
+    requires room { room < 1000 }
+    ensures gives { Gives exp result (reads language room g.Membership (lexemes tokens.now)) }
+    ensures low { IfOk result (λ x. x.height ≤ room) }
+{
+    if room == 0 {
+        return Err(ReadFault::TooDeep(tokens));
+    }
+    memberships(alloc, room - 1, tokens)
+}
+
+/// An element, and `\in` with an owned set, once at least.
+#[cycle(expressions)]
+fn memberships<'a>(alloc: Global, room: u32, tokens: &'a [Token<'a>]) -> Reading<'a, Expr>
+    requires room { room < 1000 }
+    ensures gives { Gives exp result (rule_at room g.memberships (lexemes tokens.now)) }
+    ensures low { IfOk result (λ x. x.height ≤ room + 1) }
+{
+    let left = first_membership(alloc, room, tokens)?;
+    joined_behind(alloc, Joint::In, room, left)
+}
+
+/// An element, and `\in` with an owned set.
+#[cycle(expressions)]
+fn first_membership<'a>(alloc: Global, room: u32, tokens: &'a [Token<'a>]) -> Reading<'a, Expr>
+    requires room { room < 1000 }
+    ensures gives { Gives exp result (rule_at room g.first_membership (lexemes tokens.now)) }
+    ensures low { IfOk result (λ x. x.height ≤ room + 1) }
+{
+    let left = element(alloc, room, tokens)?;
+    membership(alloc, room, left)
+}
+
+/// What stands left of an `\in` in such a body: a primary with arrows behind.
+#[cycle(expressions)]
+fn element<'a>(alloc: Global, room: u32, tokens: &'a [Token<'a>]) -> Reading<'a, Expr>
+    requires room { room < 1000 }
+    ensures gives { Gives exp result (reads language room g.Element (lexemes tokens.now)) }
+    ensures low { IfOk result (λ x. x.height ≤ room) }
+{
+    if room == 0 {
+        return Err(ReadFault::TooDeep(tokens));
+    }
+    let left = element_start(alloc, room - 1, tokens)?;
+    arrows(alloc, Mode::Spec, room - 1, left)
+}
+
+/// What an element begins with: a quantifier has an arrow behind.
+#[cycle(expressions)]
+fn element_start<'a>(alloc: Global, room: u32, tokens: &'a [Token<'a>]) -> Reading<'a, Expr>
+    requires room { room < 1000 }
+    ensures gives { Gives exp result (rule_at room g.element_start (lexemes tokens.now)) }
+    ensures low { IfOk result (λ x. x.height ≤ room + 1) }
+{
+    let Some(quantifier) = quantifier_at(tokens) else {
+        return set_primary(alloc, room, tokens);
+    };
+    fits(4, room, tokens)?;
+    quantified_field(alloc, quantifier, room, tokens)
+}
+
+/// A quantifier with an arrow behind.
+#[cycle(expressions)]
+fn quantified_field<'a>(
+    alloc: Global,
+    quantifier: Quantifier,
+    room: u32,
+    tokens: &'a [Token<'a>],
+) -> Reading<'a, Expr>
+    requires room { room < 1000 }
+    requires fits { 0 < room }
+    requires here { next language (lexemes tokens.now) ≡ forms.quantifier_class quantifier }
+    ensures gives { Gives exp result (rule_at room g.quantified_field (lexemes tokens.now)) }
+    ensures low { IfOk result (λ x. x.height ≤ room + 1) }
+{
+    let left = set_quantifier(alloc, quantifier, room - 1, tokens)?;
+    first_arrow(alloc, room, left)
+}
+
+/// Goes on with this joint. Each adds a level of height, so there are no more of them than there is room.
+#[cycle(expressions)]
+fn joined_behind<'a>(
+    alloc: Global,
+    joint: Joint,
+    room: u32,
+    left: Parsed<'a, Expr>,
+) -> Reading<'a, Expr>
+    requires room { room < 1000 }
+    requires low { left.height ≤ room + 1 }
+    ensures gives { Gives exp result (linked (room + 1) room (joints.behind joint) (exp left.entry.value) left.entry.height (lexemes left.entry.rest.now)) }
+    ensures low { IfOk result (λ x. x.height ≤ room + 1) }
+{
+    let mut found = left;
+    'chain: for _ in 0..room + 1 {
+        if !next_joins(joint, found.rest) {
+            return Ok(found);
+        }
+        found = one_joint(alloc, joint, room, found)?;
+    }
+    if next_joins(joint, found.rest) {
+        return Err(ReadFault::TooDeep(found.rest));
+    }
+    Ok(found)
+}
+
+/// Goes on with the joint that comes next.
+#[cycle(expressions)]
+fn one_joint<'a>(
+    alloc: Global,
+    joint: Joint,
+    room: u32,
+    left: Parsed<'a, Expr>,
+) -> Reading<'a, Expr>
+    requires room { room < 1000 }
+    ensures gives { Gives exp result (levels.one_link room (joints.behind joint) (exp left.entry.value) left.entry.height (lexemes left.entry.rest.now)) }
+    ensures low { IfOk result (λ x. x.height ≤ room + 1) }
+{
+    fits(left.height.max(least_behind(joint)), room, left.rest)?;
+    joint_behind(alloc, joint, room, left)
+}
+
+/// A joint and what stands right of it.
+#[cycle(expressions)]
+fn joint_behind<'a>(
+    alloc: Global,
+    joint: Joint,
+    room: u32,
+    left: Parsed<'a, Expr>,
+) -> Reading<'a, Expr>
+    requires room { room < 1000 }
+    requires low { left.height ≤ room }
+    ensures gives { Gives exp result (joined (exp left.entry.value) left.entry.height (part room (joints.behind joint) (lexemes left.entry.rest.now))) }
+    ensures low { IfOk result (λ x. x.height ≤ room + 1) }
+{
+    match joint {
+        Joint::In => membership(alloc, room, left),
+        Joint::And => and_membership(alloc, room, left),
+        Joint::Implies => implies_body(alloc, room, left),
+    }
+}
+
+/// `&&` and memberships.
+#[cycle(expressions)]
+#[tactic(auto, unfolding(ebnf::specs::Reading::read))]
+fn and_membership<'a>(alloc: Global, room: u32, left: Parsed<'a, Expr>) -> Reading<'a, Expr>
+    requires room { room < 1000 }
+    requires low { left.height ≤ room }
+    ensures gives { Gives exp result (joined (exp left.entry.value) left.entry.height (part room g.and_membership (lexemes left.entry.rest.now))) }
+    ensures low { IfOk result (λ x. x.height ≤ room + 1) }
+{
+    let sign = take(Sign::And, left.rest)?;
+    let other = membership_of(alloc, room, sign.rest)?;
+    let height = left.height.max(other.height) + 1;
+    let first = boxed(alloc, left.value)?;
+    let second = boxed(alloc, other.value)?;
+    Ok(Parsed {
+        value: Expr::Binary(sign.value, BinaryOperator::And, first, second),
+        height,
+        rest: other.rest,
+    })
+}
+
+/// `==>` and a body.
+#[cycle(expressions)]
+#[tactic(auto, unfolding(ebnf::specs::Reading::read))]
+fn implies_body<'a>(alloc: Global, room: u32, left: Parsed<'a, Expr>) -> Reading<'a, Expr>
+    requires room { room < 1000 }
+    requires low { left.height ≤ room }
+    ensures gives { Gives exp result (joined (exp left.entry.value) left.entry.height (part room g.implies_body (lexemes left.entry.rest.now))) }
+    ensures low { IfOk result (λ x. x.height ≤ room + 1) }
+{
+    let sign = take(Sign::Implies, left.rest)?;
+    let other = set_body(alloc, room, sign.rest)?;
+    let height = left.height.max(other.height) + 1;
+    let first = boxed(alloc, left.value)?;
+    let second = boxed(alloc, other.value)?;
+    Ok(Parsed {
+        value: Expr::Binary(sign.value, BinaryOperator::Implies, first, second),
+        height,
+        rest: other.rest,
+    })
 }

@@ -4,6 +4,7 @@
 pub mod arrows;
 pub mod expressions;
 pub mod forms;
+pub mod joints;
 pub mod leaves;
 pub mod levels;
 pub mod memory;

@@ -1,4 +1,4 @@
-use Rattle.std.proofs.Common.{◌≡◌, ◌≢◌, ◌+◌, ◌-◌, ℕ, suc, Bool, true, false, nat_le, List, [], ◌∷◌, length, ap, sym, ◌∙◌, subst, arith}
+use Rattle.std.proofs.Common.{◌≡◌, ◌+◌, ◌-◌, suc, true, false, nat_le, List, [], ◌∷◌, ap, sym, ◌∙◌, arith}
 use Rattle.std.proofs.Common.{Vec}
 use Rattle.std.specs.declared.alloc.Global.{Global}
 use Rattle.std.proofs.lemmas.List.{length-map}
@@ -10,21 +10,22 @@ use Rattle.c_syntax.specs.Expressions.{Exp}
 use Rattle.c_syntax.specs.Lexing.{lexeme}
 use Rattle.ebnf.specs.Sets.{has, first}
 use Rattle.ebnf.specs.Tools.{eq_true}
-use Rattle.c_syntax.specs.declared.token.Sign.TheVariants as s
 use Rattle.c_syntax.specs.declared.tree.UnaryOperator.TheVariants as u
 use Rattle.c_syntax.specs.Views.{exp, exps}
 use Rattle.c_syntax.specs.Language.{language}
 use Rattle.c_syntax.specs.Grammar as g
 use Rattle.c_syntax.specs.Grammar.{rule}
-use Rattle.expr_reader.specs.Reading.{Gives, lexemes, part, rule_at, entered}
-use Rattle.expr_reader.specs.Levels.{mode_of, tier_of, level, link, linked, whole}
+use Rattle.expr_reader.specs.Reading.{lexemes, part, rule_at, entered}
+use Rattle.expr_reader.specs.Levels.{mode_of, tier_of, level, link, joined, whole}
 use Rattle.expr_reader.specs.Forms as forms
 use Rattle.expr_reader.specs.Lists.{behind_comma, listed}
+use Rattle.expr_reader.specs.Joints.{behind}
 use Rattle.expr_reader.proofs.Chains.{stop, over_from, goes_from, fails_from}
 use Rattle.expr_reader.proofs.Many as many
 use Rattle.expr_reader.proofs.Commas.{whole_list, begins_comma, comma_takes}
 use Rattle.expr_reader.proofs.Outcomes.{first_err, then_gives, same_gives, high_gives, is_prefix_rule, level_plus, link_high, link_binary, link_choice, link_in, link_in_high, at_in, not_in}
 use Rattle.expr_reader.proofs.Primaries.{primary_named, primary_code, primary_unnamed, unnamed_number, unnamed_null, unnamed_group, unnamed_high, unnamed_none, form_fits, form_high, constant_rule, prefix_fits, prefix_high, postfix_plus, set_read, reads_rule, reads_none, set_named, set_form, set_other}
+use Rattle.expr_reader.proofs.SetBodies.{start_primary, start_quantifier, quantifier_high, quantifier_fits, body_read, conjunction_read, memberships_read, membership_read, element_read, element_primary, element_high, element_fits, field_read, joint_high, joint_low, rooms}
 use Rattle.expr_reader.proofs.expressions.+expressions.Goals as goal
 
 abbrev all_of : Vec Expr Global → List Exp
@@ -241,7 +242,13 @@ pub set_start-returns-then-room-eq0-clause-gives : goal.set_start-returns-then-r
 set_start-returns-then-room-eq0-clause-gives t c = reads_none c.args.room g.SetStart (lexemes c.args.tokens.now) c.if-room-eq0.true
 
 pub set_start-returns-clause-gives : goal.set_start-returns-clause-gives
-set_start-returns-clause-gives t c = same_gives exp c.set_primary.result _ _ (reads_rule c.args.room g.SetStart (lexemes c.args.tokens.now) c.if-room-eq0.false) c.set_primary.ensures.gives
+set_start-returns-clause-gives t c = same_gives exp c.set_begun.result _ _ (reads_rule c.args.room g.SetStart (lexemes c.args.tokens.now) c.if-room-eq0.false) c.set_begun.ensures.gives
+
+pub set_begun-returns-in-None-clause-gives : goal.set_begun-returns-in-None-clause-gives
+set_begun-returns-in-None-clause-gives t c = same_gives exp c.set_primary.result _ _ (start_primary c.args.room (lexemes c.args.tokens.now) c.in-None.ensures) c.set_primary.ensures.gives
+
+pub set_begun-returns-in-Some-clause-gives : goal.set_begun-returns-in-Some-clause-gives
+set_begun-returns-in-Some-clause-gives t c = same_gives exp c.set_quantifier.result _ _ (start_quantifier c.in-Some.quantifier c.args.room (lexemes c.args.tokens.now) c.in-Some.ensures) c.set_quantifier.ensures.gives
 
 pub set_primary-returns-then-next_is_name-clause-gives : goal.set_primary-returns-then-next_is_name-clause-gives
 set_primary-returns-then-next_is_name-clause-gives t c = same_gives exp c.named.result _ _ (set_named c.args.room (lexemes c.args.tokens.now) (eq_true _ _ (sym c.next_is_name.ensures ∙ c.if-next_is_name.true))) c.named.ensures.gives
@@ -251,6 +258,132 @@ set_primary-returns-in-None-clause-gives t c = same_gives exp c.unnamed.result _
 
 pub set_primary-returns-in-Some-clause-gives : goal.set_primary-returns-in-Some-clause-gives
 set_primary-returns-in-Some-clause-gives t c = let w = c.in-Some.ensures.some in same_gives exp c.formed.result _ _ (set_form c.in-Some.form c.args.room (lexemes c.args.tokens.now) w.1 w.0) c.formed.ensures.gives
+
+-- ---- quantifiers right of `\in`
+
+pub set_quantifier-returns-in_err-fits-clause-gives : goal.set_quantifier-returns-in_err-fits-clause-gives
+set_quantifier-returns-in_err-fits-clause-gives t c =
+    let p = err_from_is_err_and c.from_residual.result c.from_residual.ensures.1 in
+    let e = c.in_err-fits.ensures.err in
+    rw (p.1, p.2) (high_gives exp _ _ _ e.1 (quantifier_high c.args.quantifier c.args.room (lexemes c.args.tokens.now) c.requires.here e.0))
+
+pub set_quantifier-returns-clause-gives : goal.set_quantifier-returns-clause-gives
+set_quantifier-returns-clause-gives t c = same_gives exp c.set_quantified.result _ _ (quantifier_fits c.args.quantifier c.args.room (lexemes c.args.tokens.now) c.requires.here c.in_ok-fits.ensures.ok) c.set_quantified.ensures.gives
+
+pub set_body-returns-then-room-eq0-clause-gives : goal.set_body-returns-then-room-eq0-clause-gives
+set_body-returns-then-room-eq0-clause-gives t c = reads_none c.args.room g.SetBody (lexemes c.args.tokens.now) c.if-room-eq0.true
+
+pub set_body-returns-in_err-left-clause-gives : goal.set_body-returns-in_err-left-clause-gives
+set_body-returns-in_err-left-clause-gives t c =
+    let p = err_from_is_err_and c.from_residual.result c.from_residual.ensures.1 in
+    rw (p.1, p.2) (first_err exp exp _ _ _ _ (body_read c.args.room (lexemes c.args.tokens.now) c.if-room-eq0.false) c.in_err-left.ensures.gives)
+
+pub set_body-returns-clause-gives : goal.set_body-returns-clause-gives
+set_body-returns-clause-gives t c = then_gives exp c.joined_behind.result _ _ _ _ _ _ (body_read c.args.room (lexemes c.args.tokens.now) c.if-room-eq0.false) c.in_ok-left.ensures.gives c.joined_behind.ensures.gives
+
+pub set_conjunction-returns-in_err-left-clause-gives : goal.set_conjunction-returns-in_err-left-clause-gives
+set_conjunction-returns-in_err-left-clause-gives t c =
+    let p = err_from_is_err_and c.from_residual.result c.from_residual.ensures.1 in
+    rw (p.1, p.2) (first_err exp exp _ _ _ _ (conjunction_read c.args.room (lexemes c.args.tokens.now)) c.in_err-left.ensures.gives)
+
+pub set_conjunction-returns-clause-gives : goal.set_conjunction-returns-clause-gives
+set_conjunction-returns-clause-gives t c = then_gives exp c.joined_behind.result _ _ _ _ _ _ (conjunction_read c.args.room (lexemes c.args.tokens.now)) c.in_ok-left.ensures.gives c.joined_behind.ensures.gives
+
+pub membership_of-returns-then-room-eq0-clause-gives : goal.membership_of-returns-then-room-eq0-clause-gives
+membership_of-returns-then-room-eq0-clause-gives t c = reads_none c.args.room g.Membership (lexemes c.args.tokens.now) c.if-room-eq0.true
+
+pub membership_of-returns-clause-gives : goal.membership_of-returns-clause-gives
+membership_of-returns-clause-gives t c = same_gives exp c.memberships.result _ _ (reads_rule c.args.room g.Membership (lexemes c.args.tokens.now) c.if-room-eq0.false) c.memberships.ensures.gives
+
+pub memberships-returns-in_err-left-clause-gives : goal.memberships-returns-in_err-left-clause-gives
+memberships-returns-in_err-left-clause-gives t c =
+    let p = err_from_is_err_and c.from_residual.result c.from_residual.ensures.1 in
+    rw (p.1, p.2) (first_err exp exp _ _ _ _ (memberships_read c.args.room (lexemes c.args.tokens.now)) c.in_err-left.ensures.gives)
+
+pub memberships-returns-clause-gives : goal.memberships-returns-clause-gives
+memberships-returns-clause-gives t c = then_gives exp c.joined_behind.result _ _ _ _ _ _ (memberships_read c.args.room (lexemes c.args.tokens.now)) c.in_ok-left.ensures.gives c.joined_behind.ensures.gives
+
+pub first_membership-returns-in_err-left-clause-gives : goal.first_membership-returns-in_err-left-clause-gives
+first_membership-returns-in_err-left-clause-gives t c =
+    let p = err_from_is_err_and c.from_residual.result c.from_residual.ensures.1 in
+    rw (p.1, p.2) (first_err exp exp _ _ _ _ (membership_read c.args.room (lexemes c.args.tokens.now)) c.in_err-left.ensures.gives)
+
+pub first_membership-returns-clause-gives : goal.first_membership-returns-clause-gives
+first_membership-returns-clause-gives t c = then_gives exp c.membership.result _ _ _ _ _ _ (membership_read c.args.room (lexemes c.args.tokens.now)) c.in_ok-left.ensures.gives c.membership.ensures.gives
+
+pub element-returns-then-room-eq0-clause-gives : goal.element-returns-then-room-eq0-clause-gives
+element-returns-then-room-eq0-clause-gives t c = reads_none c.args.room g.Element (lexemes c.args.tokens.now) c.if-room-eq0.true
+
+pub element-returns-in_err-left-clause-gives : goal.element-returns-in_err-left-clause-gives
+element-returns-in_err-left-clause-gives t c =
+    let p = err_from_is_err_and c.from_residual.result c.from_residual.ensures.1 in
+    rw (p.1, p.2) (first_err exp exp _ _ _ _ (element_read c.args.room (lexemes c.args.tokens.now) c.if-room-eq0.false) c.in_err-left.ensures.gives)
+
+pub element-returns-clause-gives : goal.element-returns-clause-gives
+element-returns-clause-gives t c = then_gives exp c.arrows.result _ _ _ _ _ _ (element_read c.args.room (lexemes c.args.tokens.now) c.if-room-eq0.false) c.in_ok-left.ensures.gives c.arrows.ensures.gives
+
+pub element_start-returns-in_default-clause-gives : goal.element_start-returns-in_default-clause-gives
+element_start-returns-in_default-clause-gives t c = same_gives exp c.set_primary.result _ _ (element_primary c.args.room (lexemes c.args.tokens.now) c.in_default.ensures) c.set_primary.ensures.gives
+
+pub element_start-returns-in_err-fits-clause-gives : goal.element_start-returns-in_err-fits-clause-gives
+element_start-returns-in_err-fits-clause-gives t c =
+    let p = err_from_is_err_and c.from_residual.result c.from_residual.ensures.1 in
+    let e = c.in_err-fits.ensures.err in
+    rw (p.1, p.2) (high_gives exp _ _ _ e.1 (element_high c.in-Some.quantifier c.args.room (lexemes c.args.tokens.now) c.in-Some.ensures e.0))
+
+pub element_start-returns-clause-gives : goal.element_start-returns-clause-gives
+element_start-returns-clause-gives t c = same_gives exp c.quantified_field.result _ _ (element_fits c.in-Some.quantifier c.args.room (lexemes c.args.tokens.now) c.in-Some.ensures c.in_ok-fits.ensures.ok) c.quantified_field.ensures.gives
+
+pub quantified_field-returns-in_err-left-clause-gives : goal.quantified_field-returns-in_err-left-clause-gives
+quantified_field-returns-in_err-left-clause-gives t c =
+    let p = err_from_is_err_and c.from_residual.result c.from_residual.ensures.1 in
+    rw (p.1, p.2) (first_err exp exp _ _ _ _ (field_read c.args.room (lexemes c.args.tokens.now) (λ z. absurd (omega (arith, z, c.requires.fits)))) c.in_err-left.ensures.gives)
+
+pub quantified_field-returns-clause-gives : goal.quantified_field-returns-clause-gives
+quantified_field-returns-clause-gives t c = then_gives exp c.first_arrow.result _ _ _ _ _ _ (field_read c.args.room (lexemes c.args.tokens.now) (λ z. absurd (omega (arith, z, c.requires.fits)))) c.in_ok-left.ensures.gives c.first_arrow.ensures.gives
+
+pub joined_behind-returns-then-not-next_joins-clause-gives : goal.joined_behind-returns-then-not-next_joins-clause-gives
+joined_behind-returns-then-not-next_joins-clause-gives t c = sym c.chain.invariant.same ∙ stop c.args.room (behind c.args.joint) _ _ _ _ (sym c.next_joins.ensures ∙ c.if-not-next_joins.true)
+
+pub joined_behind-returns-in_err-found-clause-gives : goal.joined_behind-returns-in_err-found-clause-gives
+joined_behind-returns-in_err-found-clause-gives t c =
+    let p = err_from_is_err_and c.from_residual.result c.from_residual.ensures.1 in
+    let n : c.args.room + 1 - c.chain.counter ≡ suc (c.args.room - c.chain.counter) = omega (arith, c.chain-test.true) in
+    rw (p.1, p.2) (fails_from c.args.room (behind c.args.joint) exp exp _ _ _ _ _ _ _ n (sym c.next_joins.ensures ∙ c.if-not-next_joins.false) c.in_err-found.ensures.gives c.chain.invariant.same)
+
+pub joined_behind-chain-preserved : goal.joined_behind-chain-preserved
+joined_behind-chain-preserved t c =
+    let n : c.args.room + 1 - c.chain.counter ≡ suc (c.args.room + 1 - (c.chain.counter + 1)) = omega (arith, c.chain-test.true) in
+    record {
+      low = omega (arith, c.in_ok-found.ensures.low);
+      same = goes_from c.args.room (behind c.args.joint) _ _ _ _ _ _ _ _ _ n (sym c.next_joins.ensures ∙ c.if-not-next_joins.false) c.in_ok-found.ensures.gives c.chain.invariant.same;
+    }
+
+pub joined_behind-returns-then-next_joins-clause-gives : goal.joined_behind-returns-then-next_joins-clause-gives
+joined_behind-returns-then-next_joins-clause-gives t c =
+    let n : c.args.room + 1 - c.chain.counter ≡ 0 = omega (arith, c.chain-test.false) in
+    over_from c.args.room (behind c.args.joint) _ _ _ _ _ n (sym c.next_joins-2.ensures ∙ c.if-next_joins.true) c.chain.invariant.same
+
+pub joined_behind-returns-clause-gives : goal.joined_behind-returns-clause-gives
+joined_behind-returns-clause-gives t c = sym c.chain.invariant.same ∙ stop c.args.room (behind c.args.joint) _ _ _ _ (sym c.next_joins-2.ensures ∙ c.if-next_joins.false)
+
+pub one_joint-returns-in_err-fits-clause-gives : goal.one_joint-returns-in_err-fits-clause-gives
+one_joint-returns-in_err-fits-clause-gives t c =
+    let p = err_from_is_err_and c.from_residual.result c.from_residual.ensures.1 in
+    let e = c.in_err-fits.ensures.err in
+    rw (p.1, p.2) (high_gives exp _ _ _ e.1 (joint_high (behind c.args.joint) c.args.room _ _ _ (rooms c.args.room _ c.least_behind.ensures c.max.ensures ∙ e.0)))
+
+pub one_joint-returns-clause-gives : goal.one_joint-returns-clause-gives
+one_joint-returns-clause-gives t c = same_gives exp c.joint_behind.result _ _ (joint_low (behind c.args.joint) c.args.room _ _ _ (rooms c.args.room _ c.least_behind.ensures c.max.ensures ∙ c.in_ok-fits.ensures.ok)) c.joint_behind.ensures.gives
+
+pub joint_behind-returns-in-In-clause-gives : goal.joint_behind-returns-in-In-clause-gives
+joint_behind-returns-in-In-clause-gives t c = same_gives exp c.membership.result _ _ (ap (λ x. joined (exp c.args.left.value) c.args.left.height (part c.args.room (behind x) (lexemes c.args.left.rest.now))) c.in-In.is) c.membership.ensures.gives
+
+pub joint_behind-returns-in-And-clause-gives : goal.joint_behind-returns-in-And-clause-gives
+joint_behind-returns-in-And-clause-gives t c = same_gives exp c.and_membership.result _ _ (ap (λ x. joined (exp c.args.left.value) c.args.left.height (part c.args.room (behind x) (lexemes c.args.left.rest.now))) c.in-And.is) c.and_membership.ensures.gives
+
+pub joint_behind-returns-in-Implies-clause-gives : goal.joint_behind-returns-in-Implies-clause-gives
+joint_behind-returns-in-Implies-clause-gives t c = same_gives exp c.implies_body.result _ _ (ap (λ x. joined (exp c.args.left.value) c.args.left.height (part c.args.room (behind x) (lexemes c.args.left.rest.now))) c.in-Implies.is) c.implies_body.ensures.gives
 
 -- ---- whole expressions
 

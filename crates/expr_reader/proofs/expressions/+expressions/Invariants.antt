@@ -4,6 +4,7 @@ use Rattle.c_syntax.specs.Grammar.{list}
 use Rattle.expr_reader.specs.Levels.{mode_of, tier_of, link, linked, number, whole}
 use Rattle.expr_reader.specs.Reading.{lexemes, part}
 use Rattle.expr_reader.specs.Lists.{listed}
+use Rattle.expr_reader.specs.Joints.{behind}
 use Rattle.expr_reader.proofs.expressions.+expressions.Given as goal
 
 abbrev pub decreases-expression : goal.decreases-expression
@@ -75,10 +76,64 @@ decreases-set_start l = 64 * l.room + 2
 abbrev pub decreases-set_primary : goal.decreases-set_primary
 decreases-set_primary l = 64 * l.room + 24
 
+abbrev pub decreases-set_begun : goal.decreases-set_begun
+decreases-set_begun l = 64 * l.room + 30
+
+abbrev pub decreases-set_quantifier : goal.decreases-set_quantifier
+decreases-set_quantifier l = 64 * l.room + 25
+
+abbrev pub decreases-set_quantified : goal.decreases-set_quantified
+decreases-set_quantified l = 64 * l.room + 4
+
+abbrev pub decreases-set_body : goal.decreases-set_body
+decreases-set_body l = 64 * l.room + 3
+
+abbrev pub decreases-set_conjunction : goal.decreases-set_conjunction
+decreases-set_conjunction l = 64 * l.room + 55
+
+abbrev pub decreases-membership_of : goal.decreases-membership_of
+decreases-membership_of l = 64 * l.room + 3
+
+abbrev pub decreases-memberships : goal.decreases-memberships
+decreases-memberships l = 64 * l.room + 50
+
+abbrev pub decreases-first_membership : goal.decreases-first_membership
+decreases-first_membership l = 64 * l.room + 45
+
+abbrev pub decreases-element : goal.decreases-element
+decreases-element l = 64 * l.room + 3
+
+abbrev pub decreases-element_start : goal.decreases-element_start
+decreases-element_start l = 64 * l.room + 35
+
+abbrev pub decreases-quantified_field : goal.decreases-quantified_field
+decreases-quantified_field l = 64 * l.room + 32
+
+abbrev pub decreases-joined_behind : goal.decreases-joined_behind
+decreases-joined_behind l = 64 * l.room + 13
+
+abbrev pub decreases-one_joint : goal.decreases-one_joint
+decreases-one_joint l = 64 * l.room + 12
+
+abbrev pub decreases-joint_behind : goal.decreases-joint_behind
+decreases-joint_behind l = 64 * l.room + 11
+
+abbrev pub decreases-and_membership : goal.decreases-and_membership
+decreases-and_membership l = 64 * l.room + 10
+
+abbrev pub decreases-implies_body : goal.decreases-implies_body
+decreases-implies_body l = 64 * l.room + 10
+
 abbrev pub invariant-links-chain : goal.invariant-links-chain
 invariant-links-chain l = record {
   low : l.found.height ≤ l.room + 1;
   same : linked (l.room + 1 - l.counter) l.room (link (mode_of l.mode) (tier_of l.tier)) (exp l.found.value) l.found.height (lexemes l.found.rest.now) ≡ linked (l.room + 1) l.room (link (mode_of l.mode) (tier_of l.tier)) (exp l.fn.left.value) l.fn.left.height (lexemes l.fn.left.rest.now);
+}
+
+abbrev pub invariant-joined_behind-chain : goal.invariant-joined_behind-chain
+invariant-joined_behind-chain l = record {
+  low : l.found.height ≤ l.room + 1;
+  same : linked (l.room + 1 - l.counter) l.room (behind l.joint) (exp l.found.value) l.found.height (lexemes l.found.rest.now) ≡ linked (l.room + 1) l.room (behind l.joint) (exp l.fn.left.value) l.fn.left.height (lexemes l.fn.left.rest.now);
 }
 
 abbrev pub decreases-list-more : goal.decreases-list-more
