@@ -26,7 +26,7 @@ use Rattle.c_syntax.specs.Tokens.{Word}
 use Rattle.c_syntax.specs.Lexing.{Lexeme}
 use Rattle.c_syntax.specs.declared.token.Span.{Span}
 use Rattle.c_syntax.specs.Grammar as gr
-use Rattle.c_syntax.specs.Grammar.{◌▷◌, Mode, Code, InSpec, Tier, Prefix, Product, Sum, Order, Equality, Conjunction, Disjunction, Choice, Implication, Equivalence, N, V, Level, Primary, Unnamed, Start, NamePlace, OtherPlace, AnyPlace, GhostName, GhostOther, SetStart, OwnedSet, InterlockedCall, Allocation, GhostArgument, Assigned, MakeClaim, GhostBody, GhostStatement, BlockOf, Statement, LoopItem, WritesOf, ClauseOf, MemberOf, ItemOf, Program, Begun, Plain, Cast, Pending, Done, Open}
+use Rattle.c_syntax.specs.Grammar.{◌▷◌, Mode, Code, InSpec, Tier, Prefix, Product, Sum, Order, Equality, Conjunction, Disjunction, Choice, Implication, Equivalence, N, V, Level, Primary, Unnamed, Start, NamePlace, OtherPlace, AnyPlace, GhostName, GhostOther, SetStart, OwnedSet, SetQuantifier, SetBody, Membership, Element, InterlockedCall, Allocation, GhostArgument, Assigned, MakeClaim, GhostBody, GhostStatement, BlockOf, Statement, LoopItem, WritesOf, ClauseOf, MemberOf, ItemOf, Program, Begun, Plain, Cast, Pending, Done, Open}
 use Rattle.c_syntax.specs.Language.{language}
 use Rattle.tree_heights.specs.Heights as h
 use Rattle.tree_heights.specs.Heights.{greatest, optional, expression, program_height}
@@ -49,6 +49,10 @@ high GhostName x = expression x
 high GhostOther x = expression x
 high SetStart x = expression x
 high OwnedSet x = expression x
+high SetQuantifier x = expression x
+high SetBody x = expression x
+high Membership x = expression x
+high Element x = expression x
 high InterlockedCall x = h.compared x.0 x.1
 high Allocation x = 2
 high GhostArgument x = h.ghost_argument x
@@ -376,8 +380,38 @@ ghost_name = further ghost_arrow named
 ghost_other : Rule_is gr.ghost_other expression
 ghost_other = further ghost_arrow (after_arrow ghost_arrow (tree Unnamed))
 
+set_primary : Rule_is gr.set_primary expression
+set_primary = a_pick named (a_pick (unnamed InSpec) spec_word)
+
+set_quantified : (class : ℕ) (q : Quantifier) → Rule_is (gr.set_quantified class q) expression
+set_quantified class q = a_form (word_then (λ o. part_then gtype (λ ty i d. word_then (λ n. word_then (λ m. part_then (tree SetBody) (λ x j f. ends (omega (arith, some x))))))))
+
+set_quantifier : Rule_is gr.set_quantifier expression
+set_quantifier = a_pick (set_quantified _ _) (set_quantified _ _)
+
 set_start : Rule_is gr.set_start expression
-set_start = a_pick named (a_pick (unnamed InSpec) spec_word)
+set_start = a_pick set_primary set_quantifier
+
+spec_arrow : Has gr.spec_arrow Behind
+spec_arrow = word_then (λ o. part_then (suffix InSpec) (λ f i s. ends (λ x. omega (arith, s o.place x))))
+
+set_element : Rule_is gr.element expression
+set_element = further spec_arrow (a_pick set_primary (after_arrow spec_arrow (tree SetQuantifier)))
+
+in_set : Has gr.in_set Behind
+in_set = word_then (λ o. tree_then (λ r i d. ends (λ x. omega arith)))
+
+and_membership : Has gr.and_membership Behind
+and_membership = word_then (λ o. tree_then (λ r i d. ends (λ x. omega arith)))
+
+implies_body : Has gr.implies_body Behind
+implies_body = word_then (λ o. tree_then (λ r i d. ends (λ x. omega arith)))
+
+memberships : Rule_is gr.memberships expression
+memberships = further in_set (after_arrow in_set (tree Element))
+
+set_body : Rule_is gr.set_body expression
+set_body = further implies_body (further and_membership memberships)
 
 owned_set : Rule_is gr.owned_set expression
 owned_set =
@@ -748,6 +782,10 @@ rule GhostName = ghost_name
 rule GhostOther = ghost_other
 rule SetStart = set_start
 rule OwnedSet = owned_set
+rule SetQuantifier = set_quantifier
+rule SetBody = set_body
+rule Membership = memberships
+rule Element = set_element
 rule InterlockedCall = interlocked_call
 rule Allocation = allocation
 rule GhostArgument = ghost_argument
