@@ -1,0 +1,4 @@
+pub mod Declared
+pub mod Fields
+pub mod Places
+pub mod Tables

@@ -1,0 +1,4 @@
+pub mod Lookup
+pub mod Names
+pub mod Program
+pub mod Whole

@@ -1,0 +1,6 @@
+//! What a program declares, found by names in the time of a hash table.
+#![tactic(auto)]
+
+pub mod declarations;
+mod first;
+pub mod seen;
