@@ -61,13 +61,21 @@ find_map f q (x ∷ xs) = by (q (f x)) (find_map f q xs)
     by true more = refl
     by false more = more
 
-module _ {X Y : Type 0} (f : X → Y) (q : Y → Bool) (xs : List X) (ys : List Y) (same : map f xs ≡ ys) where
-  -- no first place, nothing found
-  pub none_found : None ≡ position (λ x. q (f x)) xs → None ≡ find q ys
-  none_found e = ap (λ o. option_map f (option_and_then (slice_get xs) o)) e ∙ ap (option_map f) (sym (find_place (λ x. q (f x)) xs)) ∙ find_map f q xs ∙ ap (find q) same
+module _ {X Y : Type 0} (f : X → Y) (q : Y → Bool) (xs zs : List X) (place : Option ℕ) (at : find (λ x. q (f x)) xs ≡ option_and_then (slice_get zs) place) where
+  -- no place, nothing found
+  pub lookup_none : None ≡ place → None ≡ find q (map f xs)
+  lookup_none e = ap (λ o. option_map f (option_and_then (slice_get zs) o)) e ∙ ap (option_map f) (sym at) ∙ find_map f q xs
 
-  -- what stands at the first place is found
+  -- what stands at the place is found
+  pub lookup_one : (k : ℕ) (x : X) → Some k ≡ place → k < length zs → x ≡ get_or zs k x → Some (f x) ≡ find q (map f xs)
+  lookup_one k x e within there =
+      ap (λ z. Some (f z)) there ∙ sym (ap (option_map f) (slice_get-get_or zs k x within))
+      ∙ ap (λ o. option_map f (option_and_then (slice_get zs) o)) e ∙ ap (option_map f) (sym at) ∙ find_map f q xs
+
+module _ {X Y : Type 0} (f : X → Y) (q : Y → Bool) (xs : List X) (ys : List Y) (same : map f xs ≡ ys) where
+  -- the same at first places
+  pub none_found : None ≡ position (λ x. q (f x)) xs → None ≡ find q ys
+  none_found e = lookup_none f q xs xs _ (find_place (λ x. q (f x)) xs) e ∙ ap (find q) same
+
   pub one_found : (k : ℕ) (x : X) → Some k ≡ position (λ z. q (f z)) xs → x ≡ get_or xs k x → Some (f x) ≡ find q ys
-  one_found k x e there =
-      ap (λ z. Some (f z)) there ∙ sym (ap (option_map f) (slice_get-get_or xs k x (place_within (λ z. q (f z)) xs k e)))
-      ∙ ap (λ o. option_map f (option_and_then (slice_get xs) o)) e ∙ ap (option_map f) (sym (find_place (λ z. q (f z)) xs)) ∙ find_map f q xs ∙ ap (find q) same
+  one_found k x e there = lookup_one f q xs xs _ (find_place (λ z. q (f z)) xs) k x e (place_within (λ z. q (f z)) xs k e) there ∙ ap (find q) same

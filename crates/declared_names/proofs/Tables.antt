@@ -1,5 +1,5 @@
 -- Maps and sets of names after a call.
-use Rattle.std.proofs.Common.{◌≡◌, ℕ, Bool, true, false, cond, List, ◌||◌, Option, None, Some, is_some, Bor, nat_eq, refl, sym, ap, subst, ◌∙◌, true≢false}
+use Rattle.std.proofs.Common.{◌≡◌, ℕ, Bool, true, false, cond, List, ◌||◌, Option, None, Some, is_some, IsSome, Result, Ok, Err, IsOk, OnOk, OnErr, if◌then◌else◌, Bor, nat_eq, refl, sym, ap, subst, ◌∙◌, true≢false}
 use Rattle.std.specs.Cmp.Lexicographic.{pointwise}
 use Rattle.std.specs.Option.{option_or}
 use Rattle.std.specs.Str.{bytes_eq}
@@ -47,3 +47,26 @@ placed key name m n place same absent updates y =
     by (Some v) true h = absurd (true≢false (h refl))
     by (Some v) false h = refl
     by None b h = refl
+
+-- a name that is there is written without taking memory
+pub there : {S T E : Type 0} (key : Bor (List ℕ)) (name : List ℕ) (m : IndexMap (Bor (List ℕ)) ℕ S) (r : Result T E) → key.now ≡ name
+    → IsSome (at m name) → OnErr r (at m key.now ≡ None) → IsOk r
+there key name m (Ok x) same some absent = refl
+there key name m (Err x) same some absent = let h : is_some (at m name) ≡ false = ap (λ b. is_some (at m b)) (sym same) ∙ ap is_some absent in absurd (true≢false (sym some ∙ h))
+
+on_ok : {T E : Type 0} (P : Type 0) (r : Result T E) → IsOk r → OnOk r P → P
+on_ok P (Ok x) h p = p
+on_ok P (Err x) h p = absurd (true≢false (sym h))
+
+-- a name that stands for what was hidden
+pub shown : {S T E : Type 0} (key : Bor (List ℕ)) (name : List ℕ) (m n : IndexMap (Bor (List ℕ)) ℕ S) (r : Result T E) (place : ℕ) (hidden : Option ℕ) → key.now ≡ name
+    → IsSome (at m name) → OnErr r (at m key.now ≡ None) → OnOk r (maps.Updates (λ x y. pointwise nat_eq x.now y.now) m n key (Some place)) → hidden ≡ Some place
+    → (y : List ℕ) → at n y ≡ (if bytes_eq name y then hidden else at m y)
+shown key name m n r place hidden same some absent updates is y =
+    written key name m n (Some place) same (on_ok _ r (there key name m r same some absent) updates) y ∙ ap (λ w. if bytes_eq name y then w else at m y) (sym is)
+
+-- a name that stands for nothing any more
+pub removed : {S : Type 0} (key : Bor (List ℕ)) (name : List ℕ) (m n : IndexMap (Bor (List ℕ)) ℕ S) (hidden : Option ℕ) → key.now ≡ name
+    → maps.Updates (λ x y. pointwise nat_eq x.now y.now) m n key None → hidden ≡ None
+    → (y : List ℕ) → at n y ≡ (if bytes_eq name y then hidden else at m y)
+removed key name m n hidden same updates is y = written key name m n None same updates y ∙ ap (λ w. if bytes_eq name y then w else at m y) (sym is)

@@ -4,3 +4,4 @@
 pub mod declarations;
 mod first;
 pub mod seen;
+pub mod variables;
