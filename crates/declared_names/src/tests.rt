@@ -6,6 +6,7 @@ use c_syntax::items::{FieldDeclaration, Function, Item, Member, Struct};
 use c_syntax::token::Span;
 use c_syntax::tree::Attribute;
 use std::alloc::{AllocError, Global};
+use std::process::Abort;
 use std::test::*;
 
 fn place(line: u32) -> Span {
@@ -80,16 +81,32 @@ fn function_of(alloc: Global, line: u32, text: &str) -> Result<Item, AllocError>
     }))
 }
 
+// Adds an item: a struct, if fields are given.
+fn add(
+    items: &mut Vec<Item>,
+    line: u32,
+    text: &str,
+    attributes: &[Attribute],
+    fields: Option<&[(&str, bool)]>,
+) -> Result<(), AllocError> {
+    let alloc = *items.allocator();
+    let item = match fields {
+        Some(fields) => struct_of(alloc, line, attributes, text, fields)?,
+        None => function_of(alloc, line, text)?,
+    };
+    items.push(item)?;
+    Ok(())
+}
+
 // Two structs and two functions of one name, a struct and a function of one name.
-fn program(alloc: Global) -> Result<Vec<Item>, AllocError> {
+fn program(items: &mut Vec<Item>) -> Result<(), AllocError> {
     let attributes = [Attribute::Claimable, Attribute::VolatileOwns];
     let fields = [("x", false), ("x", true), ("y", true)];
-    let first = struct_of(alloc, 1, &attributes, "node", &fields)?;
-    let second = function_of(alloc, 2, "node")?;
-    let third = struct_of(alloc, 3, &[], "node", &[("z", false)])?;
-    let fourth = function_of(alloc, 4, "main")?;
-    let fifth = function_of(alloc, 5, "main")?;
-    Ok(Vec::from_array(alloc, [first, second, third, fourth, fifth])?)
+    add(items, 1, "node", &attributes, Some(&fields))?;
+    add(items, 2, "node", &[], None)?;
+    add(items, 3, "node", &[], Some(&[("z", false)]))?;
+    add(items, 4, "main", &[], None)?;
+    add(items, 5, "main", &[], None)
 }
 
 // The lines of the structs with these names.
@@ -144,15 +161,11 @@ fn variables_called(
     Ok(all)
 }
 
-#[test]
-fn finds_structs_and_functions(rt: HostRuntime) -> Result<(), AllocError> {
-    let alloc = rt.alloc();
-    let items = program(alloc)?;
-    let found = Declarations::of(alloc, &items)?;
+fn check_names(rt: &impl Abort, alloc: Global, found: &Declarations) -> Result<(), AllocError> {
     let asked = names(alloc, 9, &["node", "main", "nod", ""])?;
-    let structs = structs_called(alloc, &found, &asked)?;
+    let structs = structs_called(alloc, found, &asked)?;
     assert_eq!(rt; structs.as_slice(), [Some(1), None, None, None].as_slice());
-    let functions = functions_called(alloc, &found, &asked)?;
+    let functions = functions_called(alloc, found, &asked)?;
     assert_eq!(rt;
         functions.as_slice(),
         [Some(2), Some(4), None, None].as_slice()
@@ -162,11 +175,7 @@ fn finds_structs_and_functions(rt: HostRuntime) -> Result<(), AllocError> {
     Ok(())
 }
 
-#[test]
-fn finds_fields(rt: HostRuntime) -> Result<(), AllocError> {
-    let alloc = rt.alloc();
-    let items = program(alloc)?;
-    let found = Declarations::of(alloc, &items)?;
+fn check_fields(rt: &impl Abort, alloc: Global, found: &Declarations) -> Result<(), AllocError> {
     let asked = names(alloc, 9, &["x", "y", "z"])?;
     let wanted = [[Some(false), Some(true), None], [None, None, Some(false)]];
     for (entry, wanted) in found.structs().iter().zip(wanted) {
@@ -176,17 +185,24 @@ fn finds_fields(rt: HostRuntime) -> Result<(), AllocError> {
     Ok(())
 }
 
-#[test]
-fn tells_attributes(rt: HostRuntime) -> Result<(), AllocError> {
-    let alloc = rt.alloc();
-    let items = program(alloc)?;
-    let found = Declarations::of(alloc, &items)?;
+fn check_attributes(rt: &impl Abort, found: &Declarations) {
     let wanted = [[true, false, true], [false, false, false]];
     for (entry, wanted) in found.structs().iter().zip(wanted) {
         assert_eq!(rt; entry.is_claimable(), wanted[0]);
         assert_eq!(rt; entry.has_dynamic_owns(), wanted[1]);
         assert_eq!(rt; entry.has_volatile_owns(), wanted[2]);
     }
+}
+
+#[test]
+fn finds_what_is_declared(rt: HostRuntime) -> Result<(), AllocError> {
+    let alloc = rt.alloc();
+    let mut items = Vec::new(alloc);
+    program(&mut items)?;
+    let found = Declarations::of(alloc, &items)?;
+    check_names(&rt, alloc, &found)?;
+    check_fields(&rt, alloc, &found)?;
+    check_attributes(&rt, &found);
     Ok(())
 }
 
