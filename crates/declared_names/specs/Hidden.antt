@@ -4,7 +4,7 @@ use Rattle.std.specs.Coded.{coded_option, coded_ℕ, Coded-set, ×_prop, Unit-pr
 use Rattle.std.specs.Str.{bytes_eq}
 use Rattle.declared_names.specs.declared.variables.Hiding.{Hiding}
 
--- the name of a variable
+-- the name of a variable, and whether it is this one. Own
 abbrev pub name_of : Hiding → List ℕ
 name_of h = h.variable.name.now.name.items
 

@@ -20,7 +20,7 @@ is_struct y s = bytes_eq s.name.name.items y
 abbrev pub is_function : List ℕ → Function → Bool
 is_function y f = bytes_eq f.name.name.items y
 
--- the structs and the functions, in the order of the text
+-- the structs and the functions, in the order of the text. Own
 abbrev pub structs_in : List Item → List Struct
 structs_in [] = []
 structs_in (items.Struct s ∷ more) = s ∷ structs_in more
