@@ -1,0 +1,6 @@
+pub mod Hidden
+pub mod Lookup
+pub mod Names
+pub mod Program
+pub mod Scopes
+pub mod Whole

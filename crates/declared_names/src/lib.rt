@@ -1,0 +1,9 @@
+//! What a program declares, found by names in the time of a hash table.
+#![tactic(auto)]
+
+pub mod declarations;
+mod first;
+pub mod seen;
+#[cfg(test)]
+mod tests;
+pub mod variables;
