@@ -1,5 +1,5 @@
 -- Expressions without their brackets and places.
-use Rattle.std.specs.Prelude.{ℕ, Bool, false, not, ◌&&◌, ◌||◌, List, [], ◌∷◌, ◌++◌, bytes_eq, length}
+use Rattle.std.specs.Prelude.{ℕ, Bool, true, false, not, ◌&&◌, ◌||◌, ◌==◌}
 use Rattle.int_ranges.specs.declared.ctype.CType.{CType}
 use Rattle.int_ranges.specs.declared.ctype.CType.TheVariants as types
 use Rattle.c_syntax.specs.declared.tree.Constant.{Constant}
@@ -52,92 +52,153 @@ abbrev mutual
   any_mentions n e.Stop = false
   any_mentions n (e.With x xs) = mentions n x || any_mentions n xs
 
--- ---- expressions in prefix notation, with a number for each word and sign
+-- ---- the same tree
 
-abbrev pub name_words : Id → List ℕ
-name_words x = length x.name ∷ x.name
+-- a number for each word and sign
+abbrev pub integer_number : CType → ℕ
+integer_number types.Int = 1
+integer_number types.Unsigned = 2
+integer_number types.LongLong = 3
+integer_number types.UnsignedLongLong = 4
 
-abbrev pub integer_word : CType → ℕ
-integer_word types.Int = 1
-integer_word types.Unsigned = 2
-integer_word types.LongLong = 3
-integer_word types.UnsignedLongLong = 4
+abbrev pub constant_number : Constant → ℕ
+constant_number constants.True = 1
+constant_number constants.False = 2
+constant_number constants.This = 3
+constant_number constants.Me = 4
+constant_number constants.Result = 5
 
-abbrev pub type_words : Ty → List ℕ
-type_words (e.Integer ty) = integer_word ty ∷ []
-type_words (e.Pointer x) = 5 ∷ name_words x
-type_words e.Object = 6 ∷ []
-type_words e.Claim = 7 ∷ []
+abbrev pub status_number : Status → ℕ
+status_number statuses.Closed = 1
+status_number statuses.Owner = 2
+status_number statuses.ClaimCount = 3
 
-abbrev pub constant_word : Constant → ℕ
-constant_word constants.True = 1
-constant_word constants.False = 2
-constant_word constants.This = 3
-constant_word constants.Me = 4
-constant_word constants.Result = 5
+abbrev pub unary_number : UnaryOperator → ℕ
+unary_number unary.Not = 1
+unary_number unary.Negate = 2
 
-abbrev pub status_word : Status → ℕ
-status_word statuses.Closed = 1
-status_word statuses.Owner = 2
-status_word statuses.ClaimCount = 3
+abbrev pub binary_number : BinaryOperator → ℕ
+binary_number op.Times = 1
+binary_number op.Over = 2
+binary_number op.Modulo = 3
+binary_number op.Plus = 4
+binary_number op.Minus = 5
+binary_number op.Less = 6
+binary_number op.LessEqual = 7
+binary_number op.Greater = 8
+binary_number op.GreaterEqual = 9
+binary_number op.In = 10
+binary_number op.Equal = 11
+binary_number op.NotEqual = 12
+binary_number op.And = 13
+binary_number op.Or = 14
+binary_number op.Implies = 15
+binary_number op.Equivalent = 16
 
-abbrev pub unary_word : UnaryOperator → ℕ
-unary_word unary.Not = 1
-unary_word unary.Negate = 2
+abbrev pub function_number : SpecFunction → ℕ
+function_number f.Old = 1
+function_number f.Unchanged = 2
+function_number f.Wrapped = 3
+function_number f.WrappedUnclaimed = 4
+function_number f.Mutable = 5
+function_number f.Fresh = 6
 
-abbrev pub binary_word : BinaryOperator → ℕ
-binary_word op.Times = 1
-binary_word op.Over = 2
-binary_word op.Modulo = 3
-binary_word op.Plus = 4
-binary_word op.Minus = 5
-binary_word op.Less = 6
-binary_word op.LessEqual = 7
-binary_word op.Greater = 8
-binary_word op.GreaterEqual = 9
-binary_word op.In = 10
-binary_word op.Equal = 11
-binary_word op.NotEqual = 12
-binary_word op.And = 13
-binary_word op.Or = 14
-binary_word op.Implies = 15
-binary_word op.Equivalent = 16
+abbrev pub quantifier_number : Quantifier → ℕ
+quantifier_number q.ForAll = 1
+quantifier_number q.Exists = 2
 
-abbrev pub function_word : SpecFunction → ℕ
-function_word f.Old = 1
-function_word f.Unchanged = 2
-function_word f.Wrapped = 3
-function_word f.WrappedUnclaimed = 4
-function_word f.Mutable = 5
-function_word f.Fresh = 6
+abbrev pub same_type : Ty → Ty → Bool
+same_type (e.Integer t) (e.Integer u) = integer_number t == integer_number u
+same_type (e.Pointer x) (e.Pointer y) = same_name x y
+same_type e.Object e.Object = true
+same_type e.Claim e.Claim = true
+same_type _ _ = false
 
-abbrev pub quantifier_word : Quantifier → ℕ
-quantifier_word q.ForAll = 1
-quantifier_word q.Exists = 2
+-- an expression of this form whose parts pass
+abbrev pub if_number : (ℕ → Bool) → Exp → Bool
+if_number h (e.Number p v ty) = h v
+if_number h _ = false
 
-abbrev mutual
-  pub words : Exp → List ℕ
-  words (e.Number p v ty) = 1 ∷ v ∷ []
-  words (e.Name x) = 2 ∷ name_words x
-  words (e.Null p) = 3 ∷ []
-  words (e.Word p x) = 4 ∷ constant_word x ∷ []
-  words (e.Group p x) = words x
-  words (e.Field p x y) = 5 ∷ (name_words y ++ words x)
-  words (e.State p x r s) = 6 ∷ status_word s ∷ words x
-  words (e.Owns p x r) = 7 ∷ words x
-  words (e.Unary p o x) = 8 ∷ unary_word o ∷ words x
-  words (e.Binary p o x y) = 9 ∷ binary_word o ∷ (words x ++ words y)
-  words (e.Conditional p x y z) = 10 ∷ (words x ++ (words y ++ words z))
-  words (e.Apply p g x) = 11 ∷ function_word g ∷ words x
-  words (e.Mine p xs) = 12 ∷ row_words xs
-  words (e.ClaimsObject p x y) = 13 ∷ (words x ++ words y)
-  words (e.Claims p x y) = 14 ∷ (words x ++ words y)
-  words (e.Quantified p k ty x y) = 15 ∷ quantifier_word k ∷ (type_words ty ++ (name_words x ++ words y))
+abbrev pub if_null : Exp → Bool
+if_null (e.Null p) = true
+if_null _ = false
 
-  pub row_words : Exps → List ℕ
-  row_words e.Stop = 0 ∷ []
-  row_words (e.With x xs) = words x ++ row_words xs
+abbrev pub if_word : (Constant → Bool) → Exp → Bool
+if_word h (e.Word p x) = h x
+if_word h _ = false
+
+abbrev pub if_field : (Exp → Id → Bool) → Exp → Bool
+if_field h (e.Field p x y) = h x y
+if_field h _ = false
+
+abbrev pub if_state : (Exp → Status → Bool) → Exp → Bool
+if_state h (e.State p x r s) = h x s
+if_state h _ = false
+
+abbrev pub if_owns : (Exp → Bool) → Exp → Bool
+if_owns h (e.Owns p x r) = h x
+if_owns h _ = false
+
+abbrev pub if_unary : (UnaryOperator → Exp → Bool) → Exp → Bool
+if_unary h (e.Unary p o x) = h o x
+if_unary h _ = false
+
+abbrev pub if_binary : (BinaryOperator → Exp → Exp → Bool) → Exp → Bool
+if_binary h (e.Binary p o x y) = h o x y
+if_binary h _ = false
+
+abbrev pub if_conditional : (Exp → Exp → Exp → Bool) → Exp → Bool
+if_conditional h (e.Conditional p x y z) = h x y z
+if_conditional h _ = false
+
+abbrev pub if_apply : (SpecFunction → Exp → Bool) → Exp → Bool
+if_apply h (e.Apply p g x) = h g x
+if_apply h _ = false
+
+abbrev pub if_mine : (Exps → Bool) → Exp → Bool
+if_mine h (e.Mine p xs) = h xs
+if_mine h _ = false
+
+abbrev pub if_claims_object : (Exp → Exp → Bool) → Exp → Bool
+if_claims_object h (e.ClaimsObject p x y) = h x y
+if_claims_object h _ = false
+
+abbrev pub if_claims : (Exp → Exp → Bool) → Exp → Bool
+if_claims h (e.Claims p x y) = h x y
+if_claims h _ = false
+
+abbrev pub if_quantified : (Quantifier → Ty → Id → Exp → Bool) → Exp → Bool
+if_quantified h (e.Quantified p k ty x y) = h k ty x y
+if_quantified h _ = false
+
+abbrev pub if_with : (Exp → Exps → Bool) → Exps → Bool
+if_with h e.Stop = false
+if_with h (e.With x xs) = h x xs
+
+abbrev pub is_stop : Exps → Bool
+is_stop e.Stop = true
+is_stop (e.With x xs) = false
 
 -- The same tree, brackets apart; literals are the same where their numbers are.
-abbrev pub same_tree : Exp → Exp → Bool
-same_tree x y = bytes_eq (words x) (words y)
+abbrev mutual
+  pub same_tree : Exp → Exp → Bool
+  same_tree (e.Number p v ty) y = if_number (λ w. v == w) (bare y)
+  same_tree (e.Name x) y = is_name x (bare y)
+  same_tree (e.Null p) y = if_null (bare y)
+  same_tree (e.Word p x) y = if_word (λ z. constant_number x == constant_number z) (bare y)
+  same_tree (e.Group p x) y = same_tree x y
+  same_tree (e.Field p x a) y = if_field (λ z b. same_name a b && same_tree x z) (bare y)
+  same_tree (e.State p x r s) y = if_state (λ z t. (status_number s == status_number t) && same_tree x z) (bare y)
+  same_tree (e.Owns p x r) y = if_owns (same_tree x) (bare y)
+  same_tree (e.Unary p o x) y = if_unary (λ u z. (unary_number o == unary_number u) && same_tree x z) (bare y)
+  same_tree (e.Binary p o a b) y = if_binary (λ u c d. (binary_number o == binary_number u) && (same_tree a c && same_tree b d)) (bare y)
+  same_tree (e.Conditional p a b c) y = if_conditional (λ d f g. same_tree a d && (same_tree b f && same_tree c g)) (bare y)
+  same_tree (e.Apply p g x) y = if_apply (λ h z. (function_number g == function_number h) && same_tree x z) (bare y)
+  same_tree (e.Mine p xs) y = if_mine (same_row xs) (bare y)
+  same_tree (e.ClaimsObject p a b) y = if_claims_object (λ c d. same_tree a c && same_tree b d) (bare y)
+  same_tree (e.Claims p a b) y = if_claims (λ c d. same_tree a c && same_tree b d) (bare y)
+  same_tree (e.Quantified p k ty x b) y = if_quantified (λ l u z d. (quantifier_number k == quantifier_number l) && (same_type ty u && (same_name x z && same_tree b d))) (bare y)
+
+  pub same_row : Exps → Exps → Bool
+  same_row e.Stop ys = is_stop ys
+  same_row (e.With x xs) ys = if_with (λ y zs. same_tree x y && same_row xs zs) ys

@@ -1,0 +1,98 @@
+//! Expressions.
+
+ghost use Rattle.std.specs.Prelude.{◌≡◌};
+ghost use Rattle.c_syntax.specs.Views.{exp, exps};
+ghost use Rattle.expr_rules.specs.Found.{judge};
+ghost use Rattle.expr_rules.specs.Judging as spec;
+ghost use Rattle.expr_rules.specs.Views.{context as around, judged, row_of};
+
+use crate::arrows::{field, name, owns, status, word};
+use crate::context::{Context, Quantified};
+use crate::forms::first_place;
+use crate::judged::{Judged, binary, conditional, leaf, unary, whole};
+use crate::kinds::Kind;
+use crate::words::{Row, apply, claims, claims_object, mine, quantified};
+use c_syntax::expressions::Expr;
+
+/// What an expression is, and what breaks in it.
+#[cycle(expressions)]
+pub fn expression<'s, 'a>(context: Context<'s, 'a>, x: &'a Expr) -> Judged<'s, 'a>
+    ensures { judged result ≡ judge (around context.entry) (exp x.now) }
+{
+    match x {
+        Expr::Number(_, _, _) => leaf(Some(Kind::Integer), None),
+        Expr::Null(_) => leaf(Some(Kind::Null), None),
+        Expr::Name(known) => name(context, known),
+        Expr::Constant(span, constant) => word(context, *span, *constant),
+        Expr::Group(_, inner) => {
+            let inner = expression(context, inner);
+            whole(inner.kind, inner.found, None)
+        }
+        Expr::Field(span, left, named) => {
+            let inner = expression(context.deeper(), left);
+            field(context, *span, named, inner)
+        }
+        Expr::Status(span, left, place, which) => {
+            let inner = expression(context.deeper(), left);
+            status(context, *span, left, *place, *which, inner)
+        }
+        Expr::Owns(span, left, place) => {
+            let inner = expression(context.deeper(), left);
+            owns(context, *span, left, *place, inner)
+        }
+        Expr::Unary(span, operator, operand) => {
+            let inner = expression(context.deeper(), operand);
+            unary(*span, *operator, inner)
+        }
+        Expr::Binary(span, operator, left, right) => {
+            let inside = context.operand(*operator);
+            let first = expression(inside, left);
+            let second = expression(inside, right);
+            binary(*span, *operator, first, second)
+        }
+        Expr::Conditional(span, test, left, right) => {
+            let inside = context.deeper();
+            let condition = expression(inside, test);
+            let first = expression(inside, left);
+            let second = expression(inside, right);
+            conditional(*span, condition, first, second)
+        }
+        Expr::Apply(span, function, argument) => {
+            let inner = expression(context.argument(*function), argument);
+            apply(context, *span, *function, argument, inner)
+        }
+        Expr::Mine(span, arguments) => {
+            let inner = row(context.deeper(), arguments);
+            mine(context, *span, inner)
+        }
+        Expr::ClaimsObject(_, claim, object) => {
+            let inside = context.deeper();
+            let first = expression(inside, claim);
+            let second = expression(inside, object);
+            claims_object(claim, object, first, second)
+        }
+        Expr::Claims(_, claim, property) => {
+            let first = expression(context.deeper(), claim);
+            let second = expression(context.inside_claims(), property);
+            claims(claim, first, second)
+        }
+        Expr::Quantified(span, quantifier, ty, variable, body) => {
+            let bound = Quantified::Variable(ty, variable, context.scope.quantified);
+            let inside = context.quantified(ty, variable, &bound);
+            let inner = expression(inside, body);
+            quantified(context, *span, *quantifier, ty, variable, body, inner)
+        }
+    }
+}
+
+/// Expressions where references are wanted.
+#[cycle(expressions)]
+pub fn row<'s, 'a>(context: Context<'s, 'a>, all: &'a [Expr]) -> Row<'s, 'a>
+    ensures { row_of result ≡ spec.row (around context.entry) (exps all.now) }
+{
+    let mut so_far = Row::nothing(context);
+    for x in all {
+        so_far = so_far.with(expression(context, x), first_place(x));
+    }
+    so_far
+}
