@@ -265,6 +265,22 @@ fn annotations_group_as_their_levels_say(rt: HostRuntime) -> Result<(), AllocErr
             "a && \\forall \\claim c; c || b",
             "(And a (ForAll claim c (Or c b))) 4 1:30",
         ),
+        (
+            "p \\in \\forall \\object q; q \\in a->\\owns->\\owns",
+            "(In p (-> (ForAll object q (In q (-> a owns))) owns)) 6 1:47",
+        ),
+        (
+            "p \\in \\exists \\claim z; q->x \\in a->\\owns && r \\in b->\\owns && s \\in c->\\owns ==> t \\in d->\\owns ==> u \\in e->\\owns->\\owns",
+            "(In p (-> (Exists claim z (Implies (And (And (In (-> q x) (-> a owns)) (In r (-> b owns))) (In s (-> c owns))) (Implies (In t (-> d owns)) (In u (-> e owns))))) owns)) 9 1:123",
+        ),
+        (
+            "p \\in \\forall \\object q; q \\in \\exists \\object r; r \\in a->\\owns->\\owns \\in b->\\owns->\\owns",
+            "(In p (-> (ForAll object q (In (In q (-> (Exists object r (In r (-> a owns))) owns)) (-> b owns))) owns)) 10 1:92",
+        ),
+        (
+            "p \\in \\forall \\object q; \\exists \\object r; r \\in a->\\owns->x \\in b->\\owns->\\owns && c",
+            "(And (In p (-> (ForAll object q (In (-> (Exists object r (In r (-> a owns))) x) (-> b owns))) owns)) c) 10 1:87",
+        ),
     ] {
         let got = read(rt.alloc(), Mode::Spec, 200, source.as_bytes())?;
         assert_eq!(rt; got.as_str(), want, "at {source}");
@@ -300,6 +316,36 @@ fn faults_are_where_no_expression_goes_on(rt: HostRuntime) -> Result<(), AllocEr
         (Mode::Spec, "\\forall int i", "unexpected 1:14"),
         (Mode::Spec, "\\forall q; q", "unexpected 1:9"),
         (Mode::Spec, "a->\\owns", "unexpected 1:4"),
+        (
+            Mode::Spec,
+            "p \\in \\forall \\object q; q->\\owns",
+            "unexpected 1:29",
+        ),
+        (
+            Mode::Spec,
+            "p \\in \\forall \\object q; q == r",
+            "unexpected 1:28",
+        ),
+        (
+            Mode::Spec,
+            "p \\in \\forall \\object q; q \\in a->\\owns",
+            "unexpected 1:40",
+        ),
+        (
+            Mode::Spec,
+            "p \\in \\forall \\object q; !q",
+            "unexpected 1:26",
+        ),
+        (
+            Mode::Spec,
+            "p \\in \\forall \\object q; q \\in a->\\owns || r",
+            "unexpected 1:41",
+        ),
+        (
+            Mode::Spec,
+            "p \\in \\forall \\object q; \\exists \\object r; r \\in a->\\owns->\\owns",
+            "unexpected 1:61",
+        ),
     ] {
         let got = read(rt.alloc(), mode, 200, source.as_bytes())?;
         assert_eq!(rt; got.as_str(), want, "at {source}");
@@ -328,6 +374,18 @@ fn height_is_bounded_where_it_is_passed(rt: HostRuntime) -> Result<(), AllocErro
             3,
             "a \\in b->\\owns",
             "(In a (-> b owns)) 3 1:15",
+        ),
+        (
+            Mode::Spec,
+            5,
+            "p \\in \\forall \\object q; q \\in a->\\owns->\\owns",
+            "too deep 1:7",
+        ),
+        (
+            Mode::Spec,
+            6,
+            "p \\in \\forall \\object q; q \\in a->\\owns && r \\in b->\\owns->\\owns",
+            "too deep 1:41",
         ),
         (Mode::Spec, 1, "\\true", "True 1 1:6"),
     ] {
