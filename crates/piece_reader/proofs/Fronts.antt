@@ -1,20 +1,17 @@
 -- From what the grammar reads at the front of tokens to what stands there.
-use Rattle.std.proofs.Common.{◌≡◌, ◌⊎◌, inl, inr, ℕ, zero, suc, ◌+◌, ◌-◌, ◌<◌, ◌≤◌, Bool, true, false, cond, List, [], ◌∷◌, ◌++◌, length, drop, map, Result, Ok, Err, refl, ap, sym, ◌∙◌, subst, arith, append_assoc}
-use Rattle.std.specs.Prelude.{◌==◌}
-use Rattle.std.proofs.lemmas.List.{length-append, length-map, append_cancel_right}
+use Rattle.std.proofs.Common.{◌≡◌, inl, ℕ, zero, suc, ◌+◌, ◌-◌, ◌<◌, ◌≤◌, max, true, false, List, [], ◌∷◌, ◌++◌, length, drop, map, Err, refl, ap, sym, ◌∙◌, subst, arith, append_assoc}
+use Rattle.std.proofs.lemmas.List.{length-append, length-map}
 use Rattle.c_syntax.specs.declared.token.Span.{Span}
 use Rattle.ebnf.specs.Derives.{next, IsPhrase}
 use Rattle.ebnf.specs.Sets.{has}
 use Rattle.ebnf.specs.Reading.{Fault, Unexpected, TooDeep, Out, reads}
 use Rattle.ebnf.specs.Complete.{ok}
 use Rattle.ebnf.specs.Moves.{HasNoEnd}
-use Rattle.ebnf.specs.Fronts.{Viable, Free}
 use Rattle.ebnf.specs.Starts.{starts_of}
-use Rattle.ebnf.specs.Refutes.{ErrAnd, Refuted, phrase_read, phrase_opens, phrase_low, phrase_moves, reads_refute, read_phrase, same_value, same_rest}
-use Rattle.ebnf.specs.Tools.{OkAnd, true_not_false}
-use Rattle.ebnf.specs.Sound.{Fits}
-use Rattle.ebnf.specs.Verdict.{IsText, Begins, BeginsLow, IsFirstFault, IsVerdict, HasEnd, whole, at_end, verdict}
-use Rattle.c_syntax.specs.Tokens as t
+use Rattle.ebnf.specs.Refutes.{phrase_read, phrase_opens, phrase_low, phrase_moves, reads_refute, read_phrase, same_value, same_rest}
+use Rattle.ebnf.specs.Stuck.{reads_stuck}
+use Rattle.ebnf.specs.Tools.{true_not_false}
+use Rattle.ebnf.specs.Verdict.{HasEnd}
 use Rattle.c_syntax.specs.declared.token.Token.{Token}
 use Rattle.c_syntax.specs.Lexing.{Lexeme, lexeme}
 use Rattle.c_syntax.specs.Expressions.{Exp}
@@ -24,6 +21,8 @@ use Rattle.c_syntax.specs.Faults.{first_token}
 use Rattle.c_source.specs.declared.fault.SourceFault.{SourceFault}
 use Rattle.c_source.specs.declared.fault.SourceFault.TheVariants as f
 use Rattle.expr_reader.specs.Reading.{lexemes}
+use Rattle.piece_reader.specs.Standing.{Begins, BeginsLow}
+use Rattle.piece_reader.proofs.Standing.{IsOne, Told, told, begins as goes_on}
 use Rattle.piece_reader.specs.Pieces.{code_expression, IsExpression, IsExpressionFault, IsFaultOrMemory, IsFoundOrMemory}
 
 -- ---- the end of what is left
@@ -67,43 +66,24 @@ place_behind ts front rest at' lt split =
 ended : has (goes code_expression) 0 ≡ false
 ended = refl
 
-said : (room : ℕ) (ts : List Lexeme) → 1 ≤ room → HasEnd language ts → IsVerdict language code_expression room ts (whole language room code_expression ts)
-said room ts some e = verdict language readable code_expression ended room ts (omega (arith, some)) e
+-- no tokens are two expressions
+one_phrase : IsOne (IsPhrase language code_expression)
+one_phrase ts a b h k rest late d e = sym (phrase_read language readable.good (max h k) code_expression ts a h rest d (omega arith)) ∙ phrase_read language readable.good (max h k) code_expression ts b k late e (omega arith)
+
+expression_told : (room : ℕ) (ts : List Lexeme) → 1 ≤ room → HasEnd language ts → Told (IsPhrase language code_expression) room ts (reads language room code_expression ts)
+expression_told room ts some end =
+    told (IsPhrase language code_expression) (goes code_expression) ended one_phrase (phrase_moves language readable.good code_expression) room ts end (reads language room code_expression ts)
+    (read_phrase language readable.good room code_expression ts (omega (arith, some))) (reads_stuck language readable room code_expression ts (omega (arith, some))) (reads_refute language readable.good room code_expression ts (omega (arith, some)))
 
 -- an expression that is read stands there, and no longer one begins so
 pub expression_read : (room : ℕ) (ts : List Lexeme) (e : Exp) (h : ℕ) (rest : List Lexeme) → 1 ≤ room → HasEnd language ts → reads language room code_expression ts ≡ ok language e h rest → IsExpression room ts e rest
-expression_read room ts e h rest some end is =
-    let fits = subst (λ (o : Out language Exp). OkAnd language (Fits language (IsPhrase language code_expression) room ts) o) is (read_phrase language readable.good room code_expression ts (omega (arith, some))) in
-    record {
-      high = h;
-      low = fits.1;
-      is = fits.0;
-      longest = λ front token after split place real b.
-          let after_is : at_end language (ok language e h rest) ≡ Err (Unexpected, rest) = ap (λ (q : Bool). cond q (ok language e h rest) (Err (Unexpected, rest))) (ap (λ c. c == 0) (ap (next language) place) ∙ real) in
-          let x = subst (IsVerdict language code_expression room ts) (ap (at_end language) is ∙ after_is) (said room ts some end) in
-          let same : x.front ≡ front = append_cancel_right x.front front rest (sym x.split ∙ split) in
-          let tokens : x.token ∷ x.after ≡ token ∷ after = sym x.place ∙ place in
-          let token_is : x.token ≡ token = cc tokens in
-          x.unexpected refl (subst (λ (u : Lexeme). Begins language code_expression (x.front ++ u ∷ [])) (sym token_is) (subst (λ (us : List Lexeme). Begins language code_expression (us ++ token ∷ [])) (sym same) b));
-    }
+expression_read room ts e h rest some end is = (subst (λ (o : Out language Exp). Told (IsPhrase language code_expression) room ts o) is (expression_told room ts some end)).0
 
 -- a fault that is met is the first, and no expression stands there
 pub fault_read : (room : ℕ) (ts : List Lexeme) (kind : Fault) (rest : List Lexeme) → 1 ≤ room → HasEnd language ts → reads language room code_expression ts ≡ Err (kind, rest) → IsExpressionFault room ts kind (first_token rest).place
 fault_read room ts kind rest some end is =
-    let x = subst (IsVerdict language code_expression room ts) (ap (at_end language) is) (said room ts some end) in
-    let r = subst (λ (o : Out language Exp). ErrAnd language (Refuted language (IsPhrase language code_expression) room ts) o) is (reads_refute language readable.good room code_expression ts (omega (arith, some))) in
-    record {
-      front = x.front;
-      token = x.token;
-      after = x.after;
-      split = x.split ∙ ap (λ us. x.front ++ us) x.place;
-      stands = ap (λ us. (first_token us).place) x.place;
-      before = inr x.before;
-      here = x.here;
-      unexpected = x.unexpected;
-      too_deep = x.too_deep;
-      none = λ e h late d low. r.none rest refl e h late low (subst (λ (us : List Lexeme). IsPhrase language code_expression us e h late) r.split d);
-    }
+    let t = subst (λ (o : Out language Exp). Told (IsPhrase language code_expression) room ts o) is (expression_told room ts some end) in
+    record { front = t.0; token = t.1; stop = t.5; here = ap (λ us. (first_token us).place) t.4 }
 
 -- an expression that is low enough is read
 pub read_of : (room : ℕ) (ts : List Lexeme) (e : Exp) (h : ℕ) (rest : List Lexeme) → IsPhrase language code_expression ts e h rest → h ≤ room → reads language room code_expression ts ≡ ok language e h rest
@@ -114,7 +94,7 @@ read_of room ts e h rest d low = phrase_read language readable.good room code_ex
 phrase_some : (ts : List Lexeme) (e : Exp) (h : ℕ) (rest : List Lexeme) → IsPhrase language code_expression ts e h rest → h ≤ 0 → ⊥
 phrase_some ts e h rest d low = let least : 1 ≤ h = phrase_low language readable.good code_expression ts e h rest d in omega (arith, least, low)
 
-none_low : (front : List Lexeme) → BeginsLow language code_expression 0 front → ⊥
+none_low : (front : List Lexeme) → BeginsLow (IsPhrase language code_expression) 0 front → ⊥
 none_low front b = phrase_some (front ++ b.late) b.tree b.high (b.is.end ∷ []) b.is.is b.low
 
 -- the first token of what has an end
@@ -127,11 +107,10 @@ first_of [] e = absurd (not_nil e.body e.end e.split)
 first_of (x ∷ ts) e = (x, ts, refl)
 
 -- with a token that begins an expression some expression begins
-begins_with : (t' : Lexeme) (end : Lexeme) → language.class end ≡ 0 → has (begins code_expression) (language.class t') ≡ true → Begins language code_expression (t' ∷ [])
+begins_with : (t' : Lexeme) (end : Lexeme) → language.class end ≡ 0 → has (begins code_expression) (language.class t') ≡ true → Begins (IsPhrase language code_expression) (t' ∷ [])
 begins_with t' end z b =
     let v = starts_of language readable.good readable.lasts readable.leads code_expression t' b in
-    let free : Free language (goes code_expression) (end ∷ []) = subst (λ c. has (goes code_expression) c ≡ false) (sym z) ended in
-    record { late = v.1.late ++ end ∷ []; tree = v.1.value; high = v.1.high; is = record { end = end; ends = z; is = v.1.is (end ∷ []) free } }
+    goes_on (IsPhrase language code_expression) (goes code_expression) ended v.0 (t' ∷ []) end z v.1
 
 begins_not : (t' : Lexeme) (late : List Lexeme) (e : Exp) (h : ℕ) (rest : List Lexeme) → has (begins code_expression) (language.class t') ≡ false → IsPhrase language code_expression (t' ∷ late) e h rest → ⊥
 begins_not t' late e h rest no' d = true_not_false _ (phrase_opens language readable.good code_expression (t' ∷ late) e h rest d).0 no'
@@ -143,14 +122,16 @@ no_room_deep ts end b =
     record {
       front = [];
       token = r.0;
-      after = r.1;
-      split = r.2;
-      stands = ap (λ us. (first_token us).place) r.2;
-      before = inl refl;
-      here = none_low (r.0 ∷ []);
-      unexpected = λ k. absurd (let clash : TooDeep ≡ Unexpected = k in cc clash);
-      too_deep = λ k. begins_with r.0 end.end end.ends (ap (has (begins code_expression)) (sym (ap (next language) r.2)) ∙ b);
-      none = λ e h rest d low. phrase_some ts e h rest d (low refl);
+      stop = record {
+        after = r.1;
+        split = r.2;
+        before = inl refl;
+        here = none_low (r.0 ∷ []);
+        unexpected = λ k. absurd (let clash : TooDeep ≡ Unexpected = k in cc clash);
+        too_deep = λ k. begins_with r.0 end.end end.ends (ap (has (begins code_expression)) (sym (ap (next language) r.2)) ∙ b);
+        none = λ e h rest d low. phrase_some ts e h rest d (low refl);
+      };
+      here = ap (λ us. (first_token us).place) r.2;
     }
 
 pub no_room_unexpected : (ts : List Lexeme) → HasEnd language ts → has (begins code_expression) (next language ts) ≡ false → IsExpressionFault 0 ts Unexpected (first_token ts).place
@@ -160,21 +141,23 @@ no_room_unexpected ts end b =
     record {
       front = [];
       token = r.0;
-      after = r.1;
-      split = r.2;
-      stands = ap (λ us. (first_token us).place) r.2;
-      before = inl refl;
-      here = none_low (r.0 ∷ []);
-      unexpected = λ k x. begins_not r.0 x.late x.tree x.high (x.is.end ∷ []) not_first x.is.is;
-      too_deep = λ k. absurd (let clash : Unexpected ≡ TooDeep = k in cc clash);
-      none = λ e h rest d low. begins_not r.0 r.1 e h rest not_first (subst (λ (us : List Lexeme). IsPhrase language code_expression us e h rest) r.2 d);
+      stop = record {
+        after = r.1;
+        split = r.2;
+        before = inl refl;
+        here = none_low (r.0 ∷ []);
+        unexpected = λ k x. begins_not r.0 x.late x.tree x.high (x.is.end ∷ []) not_first x.is.is;
+        too_deep = λ k. absurd (let clash : Unexpected ≡ TooDeep = k in cc clash);
+        none = λ e h rest d low. begins_not r.0 r.1 e h rest not_first (subst (λ (us : List Lexeme). IsPhrase language code_expression us e h rest) r.2 d);
+      };
+      here = ap (λ us. (first_token us).place) r.2;
     }
 
 -- ---- beside a fault no expression stands that is low enough
 
 pub none_beside : (room : ℕ) (all ts : List Lexeme) (fault : SourceFault) → IsFaultOrMemory room ts fault → (e : Exp) (h : ℕ) (rest : List Lexeme) → IsPhrase language code_expression ts e h rest → h ≤ room → IsFoundOrMemory all e rest (Err fault)
-none_beside room all ts (f.Unexpected p) x e h rest d low = x.none e h rest d (λ k. low)
-none_beside room all ts (f.TooDeep p) x e h rest d low = x.none e h rest d (λ k. low)
+none_beside room all ts (f.Unexpected p) x e h rest d low = x.stop.none e h rest d (λ k. low)
+none_beside room all ts (f.TooDeep p) x e h rest d low = x.stop.none e h rest d (λ k. low)
 none_beside room all ts f.OutOfMemory x e h rest d low = tt
 none_beside room all ts (f.BadByte p) x e h rest d low = absurd x
 none_beside room all ts (f.BadNumber p) x e h rest d low = absurd x

@@ -5,7 +5,6 @@ ghost use Rattle.ebnf.specs.Derives.{IsPhrase, next};
 ghost use Rattle.ebnf.specs.Sets.{has};
 ghost use Rattle.ebnf.specs.Verdict.{HasEnd};
 ghost use Rattle.c_syntax.specs.Expressions.{Exp};
-ghost use Rattle.c_syntax.specs.Faults.{first_token};
 ghost use Rattle.c_syntax.specs.Language.{begins, language};
 ghost use Rattle.c_syntax.specs.Lexing.{Lexeme};
 ghost use Rattle.c_syntax.specs.Views.{exp};
@@ -13,9 +12,10 @@ ghost use Rattle.expr_reader.specs.Reading.{lexemes};
 ghost use Rattle.piece_reader.specs.Pieces as spec;
 ghost use Rattle.piece_reader.specs.Pieces.{IsExpression, IsFaultOrMemory, IsFoundOrMemory};
 
+use crate::faults::first_place;
 use c_source::fault::SourceFault;
 use c_syntax::expressions::Expr;
-use c_syntax::token::{Span, Token};
+use c_syntax::token::Token;
 use expr_reader::expressions::expression;
 use expr_reader::levels::{Mode, Tier};
 use expr_reader::reading::ReadFault;
@@ -23,17 +23,7 @@ use sides::calls::begins_code;
 use std::alloc::Global;
 
 /// How high an item may be.
-const MOST_LEVELS: u32 = 200;
-
-/// The place of the first of these tokens.
-fn first_place<'a>(tokens: &'a [Token<'a>]) -> Span
-    ensures { result ≡ (first_token (lexemes tokens.now)).place }
-{
-    match tokens.first() {
-        Some(first) => first.span,
-        None => Span { line: 1, column: 1 },
-    }
-}
+pub const MOST_LEVELS: u32 = 200;
 
 /// The fault of tokens where there is no room for any expression.
 fn no_room<'a>(tokens: &'a [Token<'a>]) -> SourceFault

@@ -1,6 +1,14 @@
-//! The reader of pieces of a source: an expression by itself.
+//! The reader of pieces of a source: an expression by itself, and an annotation by itself.
 #![tactic(auto)]
 
+pub mod annotations;
 pub mod expression;
+pub mod faults;
+pub mod forms;
+pub mod places;
+pub mod tree;
+pub mod words;
 
+pub use annotations::{is_annotation, read_annotation};
 pub use expression::read_expression;
+pub use tree::{Annotation, Place};

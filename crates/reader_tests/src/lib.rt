@@ -2,6 +2,8 @@
 #![tactic(auto)]
 
 #[cfg(test)]
+mod annotation_tests;
+#[cfg(test)]
 mod annotations;
 #[cfg(test)]
 mod both_sides;

@@ -1,4 +1,4 @@
-use Rattle.std.proofs.Common.{◌≡◌, ◌<◌, ◌≤◌, ◌-◌, ℕ, List, drop, length, Err, sym, ap, ◌∙◌, subst, arith}
+use Rattle.std.proofs.Common.{◌≡◌, ◌-◌, ℕ, List, drop, Err, sym, ap, subst, arith}
 use Rattle.ebnf.specs.Reading.{Unexpected, TooDeep, reads}
 use Rattle.ebnf.specs.Verdict.{HasEnd}
 use Rattle.c_syntax.specs.Language.{language}
@@ -37,7 +37,7 @@ pub returns-in-Err-Unexpected-clause-only : goal.returns-in-Err-Unexpected-claus
 returns-in-Err-Unexpected-clause-only c =
     let read = subst (λ (e : ReadFault). Gives exp (Err e) (reads language (room_within c.args.above) code_expression (lexemes c.split_at.result.1.now))) c.in-Err-Unexpected.field-0-is c.in-Err-Unexpected.ensures.gives in
     let fault = fault_at (room_within c.args.above) c.args.tokens.now c.split_at.result.1.now c.args.at Unexpected (lexemes c.in-Err-Unexpected.rest.now) c.first_place.result c.split_at.ensures.back c.requires.at (omega arith) c.requires.end read c.first_place.ensures in
-    λ e h rest d low. fault.none e h rest d (λ k. low)
+    λ e h rest d low. fault.stop.none e h rest d (λ k. low)
 
 pub returns-in-Err-TooDeep-clause-fault : goal.returns-in-Err-TooDeep-clause-fault
 returns-in-Err-TooDeep-clause-fault c =
@@ -48,4 +48,4 @@ pub returns-in-Err-TooDeep-clause-only : goal.returns-in-Err-TooDeep-clause-only
 returns-in-Err-TooDeep-clause-only c =
     let read = subst (λ (e : ReadFault). Gives exp (Err e) (reads language (room_within c.args.above) code_expression (lexemes c.split_at.result.1.now))) c.in-Err-TooDeep.field-0-is c.in-Err-TooDeep.ensures.gives in
     let fault = fault_at (room_within c.args.above) c.args.tokens.now c.split_at.result.1.now c.args.at TooDeep (lexemes c.in-Err-TooDeep.rest.now) c.first_place-in-Err-TooDeep.result c.split_at.ensures.back c.requires.at (omega arith) c.requires.end read c.first_place-in-Err-TooDeep.ensures in
-    λ e h rest d low. fault.none e h rest d (λ k. low)
+    λ e h rest d low. fault.stop.none e h rest d (λ k. low)
