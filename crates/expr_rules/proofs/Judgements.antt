@@ -39,39 +39,39 @@ use Rattle.expr_rules.proofs.FoundLaws.{put, made, found_none, found_append, fou
 
 -- ---- tests
 
-none_behind : (o : Option Fault) → earlier o None ≡ o
+pub none_behind : (o : Option Fault) → earlier o None ≡ o
 none_behind None = refl
 none_behind (Some x) = refl
 
 -- a test in front of what else a piece breaks
-one : (b : Bool) (rule : Rule) (p : Span) (rest : List Fault) → first_of (all_at rule (place_if b p) ++ rest) ≡ earlier (broken_if b rule p) (first_of rest)
+pub one : (b : Bool) (rule : Rule) (p : Span) (rest : List Fault) → first_of (all_at rule (place_if b p) ++ rest) ≡ earlier (broken_if b rule p) (first_of rest)
 one true rule p rest = refl
 one false rule p rest = elim (first_of rest) as (λ o. o ≡ earlier None o) [ None ↦ refl | Some x ↦ refl ]
 
-last : (b : Bool) (rule : Rule) (p : Span) → first_of (all_at rule (place_if b p) ++ []) ≡ broken_if b rule p
+pub last : (b : Bool) (rule : Rule) (p : Span) → first_of (all_at rule (place_if b p) ++ []) ≡ broken_if b rule p
 last true rule p = refl
 last false rule p = refl
 
 -- two tests of one rule
-one_of_two : (a b : Bool) (rule : Rule) (p : Span) (rest : List Fault) → first_of (all_at rule (places_if a (place_if b p)) ++ rest) ≡ earlier (broken_if (a && b) rule p) (first_of rest)
+pub one_of_two : (a b : Bool) (rule : Rule) (p : Span) (rest : List Fault) → first_of (all_at rule (places_if a (place_if b p)) ++ rest) ≡ earlier (broken_if (a && b) rule p) (first_of rest)
 one_of_two true true rule p rest = refl
 one_of_two true false rule p rest = one false rule p rest
 one_of_two false true rule p rest = one false rule p rest
 one_of_two false false rule p rest = one false rule p rest
 
-last_of_two : (a b : Bool) (rule : Rule) (p : Span) → first_of (all_at rule (places_if a (place_if b p)) ++ []) ≡ broken_if (a && b) rule p
+pub last_of_two : (a b : Bool) (rule : Rule) (p : Span) → first_of (all_at rule (places_if a (place_if b p)) ++ []) ≡ broken_if (a && b) rule p
 last_of_two a b rule p = one_of_two a b rule p [] ∙ none_behind (broken_if (a && b) rule p)
 
 -- a test at a place that is there
-one_here : (a : Bool) (rule : Rule) (p : Span) (rest : List Fault) → first_of (all_at rule (places_if a (p ∷ [])) ++ rest) ≡ earlier (broken_if a rule p) (first_of rest)
+pub one_here : (a : Bool) (rule : Rule) (p : Span) (rest : List Fault) → first_of (all_at rule (places_if a (p ∷ [])) ++ rest) ≡ earlier (broken_if a rule p) (first_of rest)
 one_here true rule p rest = refl
 one_here false rule p rest = one false rule p rest
 
-last_here : (a : Bool) (rule : Rule) (p : Span) → first_of (all_at rule (places_if a (p ∷ [])) ++ []) ≡ broken_if a rule p
+pub last_here : (a : Bool) (rule : Rule) (p : Span) → first_of (all_at rule (places_if a (p ∷ [])) ++ []) ≡ broken_if a rule p
 last_here a rule p = one_here a rule p [] ∙ none_behind (broken_if a rule p)
 
 -- a value that has to convert, and two
-one_alone : (b : Bool) (rule : Rule) (p : Span) (rest : List Fault) → first_of (all_at rule (place_if b p ++ []) ++ rest) ≡ earlier (broken_if b rule p) (first_of rest)
+pub one_alone : (b : Bool) (rule : Rule) (p : Span) (rest : List Fault) → first_of (all_at rule (place_if b p ++ []) ++ rest) ≡ earlier (broken_if b rule p) (first_of rest)
 one_alone true rule p rest = refl
 one_alone false rule p rest = one false rule p rest
 
@@ -114,7 +114,7 @@ four a b d g q p =
     ∙ ap (earlier (broken_if b r.InvariantReads p)) (one d r.OldPlace p (all_at r.PropertyForm (places_if g (p ∷ [])) ++ []) ∙ ap (earlier (broken_if d r.OldPlace p)) (last_here g r.PropertyForm p)))
 
 -- what one piece breaks that accesses nothing
-own : (x : Piece) (o : Option Fault) → accesses x ≡ [] → first_of (faults x) ≡ o → found (x ∷ []) ≡ breaking o
+pub own : (x : Piece) (o : Option Fault) → accesses x ≡ [] → first_of (faults x) ≡ o → found (x ∷ []) ≡ breaking o
 unfolding found
 own x o a h =
     made (ap first_of (append-nil (faults x)) ∙ h) (ap (λ (ps : List Span). front (ps ++ [])) a) (ap (λ (ps : List Span). further (drop 1 (ps ++ []))) a)
@@ -262,7 +262,7 @@ claims_judged c p x y = whole_of c (e.Claims p x y) _ _ _ refl (found_append (ex
 
 -- ---- quantifiers
 
-own_type : (items : List Item) (ty : Ty) → found (struct_name items ty) ≡ breaking (j.type_breaks items ty)
+pub own_type : (items : List Item) (ty : Ty) → found (struct_name items ty) ≡ breaking (j.type_breaks items ty)
 own_type items (e.Integer ty) = found_none
 own_type items (e.Pointer x) = own (StructName items x) _ refl (last _ r.Undeclared x.place)
 own_type items e.Object = found_none

@@ -80,7 +80,7 @@ row_by k f o = record { kind = k; found = f; unconverted = o }
 row_at : {k k2 : Option Kind} {f f2 : Found} {o o2 : Option Fault} → k ≡ k2 → f ≡ f2 → o ≡ o2 → row_by k f o ≡ row_by k2 f2 o2
 row_at p q s = λ i. record { kind = p i; found = q i; unconverted = s i }
 
-found_more : (c : Context) (xs : List Exp) (y : Exp) → found (expressions c (xs ++ y ∷ [])) ≡ joined (found (expressions c xs)) (found (expression c y))
+pub found_more : (c : Context) (xs : List Exp) (y : Exp) → found (expressions c (xs ++ y ∷ [])) ≡ joined (found (expressions c xs)) (found (expression c y))
 found_more c xs y =
     ap found (flat_map-append (expression c) xs (y ∷ [])) ∙ (found_append (expressions c xs) (expression c y ++ []) ∙ ap (λ ps. joined (found (expressions c xs)) (found ps)) (append-nil (expression c y)))
 
@@ -91,7 +91,7 @@ one_use c y = elim (fail_together converts (kind c.scope y) (Some Object)) as (�
 abbrev places_of : List Use → List Span
 places_of = flat_map (λ u. place_if (fail_together converts u.value u.wanted) u.place)
 
-all_at_append : (rule : Rule) (ps qs : List Span) → all_at rule (ps ++ qs) ≡ all_at rule ps ++ all_at rule qs
+pub all_at_append : (rule : Rule) (ps qs : List Span) → all_at rule (ps ++ qs) ≡ all_at rule ps ++ all_at rule qs
 all_at_append rule [] qs = refl
 all_at_append rule (p ∷ ps) qs = ap (λ (fs : List Fault). (rule, p) ∷ fs) (all_at_append rule ps qs)
 

@@ -1,0 +1,125 @@
+use Rattle.std.proofs.Common.{◌≡◌, ℕ, ◌≤◌, ◌-◌, refl, sym, ap, ◌∙◌, subst, List, map, take, drop, length, arith}
+use Rattle.std.specs.Prelude.{IfOk}
+use Rattle.std.specs.Option.{option_map}
+use Rattle.c_syntax.specs.declared.expressions.Expr.{Expr}
+use Rattle.c_syntax.specs.declared.ghosts.GhostStmt.{GhostStmt}
+use Rattle.c_syntax.specs.Grammar.{ghosts_of}
+use Rattle.c_syntax.specs.Ghosts.{GStm}
+use Rattle.c_syntax.specs.Views as view
+use Rattle.c_types.specs.Contexts.{Variable, Context}
+use Rattle.c_types.specs.Pieces.{expression, in_ghosts}
+use Rattle.declared_names.specs.Scopes.{known}
+use Rattle.expr_rules.specs.Found.{Found, Judged, found, joined}
+use Rattle.expr_rules.specs.Views.{findings}
+use Rattle.typing_rules.specs.Breaks as b
+use Rattle.typing_rules.specs.Views.{fixed, within, behind_ghost, behind_ghosts, ghost_pieces}
+use Rattle.typing_rules.proofs.GhostForms.{declare_is, assign_is, owns_is, destroy_is, wrap_is, unwrap_is, block_is, if_is, if_else_is}
+use Rattle.typing_rules.proofs.Sequences.{Grows, kept, longer, grows_ghosts, ghost_block, ghosts_found_more, behind_ghosts_more}
+use Rattle.expr_rules.proofs.FoundLaws.{found_none}
+use Rattle.expr_rules.proofs.Rows.{take_at, take_all}
+use Rattle.typing_rules.proofs.ghost_blocks.+ghosts.Goals as goal
+
+-- what a statement is, which is of this form
+of_form : (c : Context) (x y : GhostStmt) (f : Found) → x ≡ y → found (ghost_pieces c (view.ghost y)) ≡ f → f ≡ found (ghost_pieces c (view.ghost x))
+of_form c x y f h k = sym (ap (λ (z : GhostStmt). found (ghost_pieces c (view.ghost z))) h ∙ k)
+
+pub ghost_statement-returns-in-Block-clause-found : goal.ghost_statement-returns-in-Block-clause-found
+ghost_statement-returns-in-Block-clause-found t c =
+    let k = (within (fixed c.args.around) (known c.args.variables.now)) in
+    let items = c.deref.result.now in
+    let shown = ap (λ (s : GStm). found (ghost_pieces k s)) (ghost_block c.args.x.now c.in-Block.field-0 c.in-Block.all items c.in-Block.is c.deref.ensures.value) ∙ block_is k c.in-Block.field-0 (ghosts_of (map view.ghost items)) in
+    subst (λ (z : Found). IfOk c.ghost_statements.result (λ f. findings f ≡ z)) (sym shown) c.ghost_statements.ensures.found
+
+pub ghost_statement-returns-in-Declare-clause-found : goal.ghost_statement-returns-in-Declare-clause-found
+ghost_statement-returns-in-Declare-clause-found t c =
+    let s = c.in-Declare in
+    let x = option_map view.ghost_rhs s.first in
+    c.ghost_declaration.ensures ∙ (ap (λ (w : Context). b.ghost_declaration w s.span (view.ty s.ty) x) c.context-context.ensures ∙ of_form (within (fixed c.args.around) (known c.args.variables.now)) c.args.x.now _ _ c.in-Declare.is (declare_is (within (fixed c.args.around) (known c.args.variables.now)) s.span (view.ty s.ty) (view.id s.field-2) x))
+
+pub ghost_statement-returns-in-Assign-clause-found : goal.ghost_statement-returns-in-Assign-clause-found
+ghost_statement-returns-in-Assign-clause-found t c =
+    let s = c.in-Assign in
+    c.ghost_assignment.ensures ∙ (ap (λ (w : Context). b.ghost_assignment w (view.exp s.left) (view.ghost_rhs s.value)) c.context-context-in-Assign.ensures ∙ of_form (within (fixed c.args.around) (known c.args.variables.now)) c.args.x.now _ _ c.in-Assign.is (assign_is (within (fixed c.args.around) (known c.args.variables.now)) s.field-0 (view.exp s.left) s.field-2 (view.ghost_rhs s.value)))
+
+pub ghost_statement-returns-in-Owns-clause-found : goal.ghost_statement-returns-in-Owns-clause-found
+ghost_statement-returns-in-Owns-clause-found t c =
+    let s = c.in-Owns in
+    c.owned_set_change.ensures ∙ (ap (λ (w : Context). b.owned_set_change w (view.exp s.left) (view.owns s.change)) c.context-context-in-Owns.ensures ∙ of_form (within (fixed c.args.around) (known c.args.variables.now)) c.args.x.now _ _ c.in-Owns.is (owns_is (within (fixed c.args.around) (known c.args.variables.now)) s.field-0 (view.exp s.left) s.field-2 (view.owns s.change)))
+
+pub ghost_statement-returns-in-DestroyClaim-clause-found : goal.ghost_statement-returns-in-DestroyClaim-clause-found
+ghost_statement-returns-in-DestroyClaim-clause-found t c =
+    let s = c.in-DestroyClaim in
+    c.claim_end.ensures ∙ (ap (λ (w : Context). b.claim_end w (view.exp s.claim) (view.exps c.deref-in-DestroyClaim.result.now)) c.context-context-in-DestroyClaim.ensures
+    ∙ (ap (λ (xs : List Expr). b.claim_end (within (fixed c.args.around) (known c.args.variables.now)) (view.exp s.claim) (view.exps xs)) c.deref-in-DestroyClaim.ensures.value ∙ of_form (within (fixed c.args.around) (known c.args.variables.now)) c.args.x.now _ _ c.in-DestroyClaim.is (destroy_is (within (fixed c.args.around) (known c.args.variables.now)) s.field-0 (view.exp s.claim) (view.exps s.objects.items))))
+
+pub ghost_statement-returns-in-Wrap-clause-found : goal.ghost_statement-returns-in-Wrap-clause-found
+ghost_statement-returns-in-Wrap-clause-found t c =
+    let s = c.in-Wrap in
+    c.ghost_wrap.ensures ∙ (ap (λ (w : Context). b.wrapping w s.span (view.exp s.object)) c.context-context-in-Wrap.ensures ∙ of_form (within (fixed c.args.around) (known c.args.variables.now)) c.args.x.now _ _ c.in-Wrap.is (wrap_is (within (fixed c.args.around) (known c.args.variables.now)) s.span (view.exp s.object)))
+
+pub ghost_statement-returns-in-Unwrap-clause-found : goal.ghost_statement-returns-in-Unwrap-clause-found
+ghost_statement-returns-in-Unwrap-clause-found t c =
+    let s = c.in-Unwrap in
+    c.ghost_wrap-in-Unwrap.ensures ∙ (ap (λ (w : Context). b.wrapping w s.span (view.exp s.object)) c.context-context-in-Unwrap.ensures ∙ of_form (within (fixed c.args.around) (known c.args.variables.now)) c.args.x.now _ _ c.in-Unwrap.is (unwrap_is (within (fixed c.args.around) (known c.args.variables.now)) s.span (view.exp s.object)))
+
+pub ghost_statement-returns-in_ok-inner-in-If-clause-found : goal.ghost_statement-returns-in_ok-inner-in-If-clause-found
+ghost_statement-returns-in_ok-inner-in-If-clause-found t c =
+    let k = (within (fixed c.args.around) (known c.args.variables.now)) in
+    let s = c.in-If in
+    let test = ap (λ (j : Judged). j.found) c.expression.ensures ∙ ap (λ (w : Context). found (expression w (view.exp s.test))) c.context.ensures in
+    let inner = c.in_ok-inner-in-If.ensures.found ∙ ap (λ (z : GhostStmt). found (ghost_pieces k (view.ghost z))) c.deref-in-If.ensures in
+    c.then.ensures ∙ (ap (λ (f : Found). joined f (findings c.in_ok-inner-in-If.inner)) test ∙ (ap (joined (found (expression k (view.exp s.test)))) inner
+    ∙ of_form k c.args.x.now _ _ s.is (if_is k s.field-0 (view.exp s.test) (view.ghost s.yes.value))))
+
+pub ghost_statement-returns-in_ok-no-in-IfElse-clause-found : goal.ghost_statement-returns-in_ok-no-in-IfElse-clause-found
+ghost_statement-returns-in_ok-no-in-IfElse-clause-found t c =
+    let k = (within (fixed c.args.around) (known c.args.variables.now)) in
+    let s = c.in-IfElse in
+    let test = ap (λ (j : Judged). j.found) c.expression-in-IfElse.ensures ∙ ap (λ (w : Context). found (expression w (view.exp s.test))) c.context-in-IfElse.ensures in
+    let yes = c.in_ok-yes-in-IfElse.ensures.found ∙ ap (λ (z : GhostStmt). found (ghost_pieces k (view.ghost z))) c.deref-in-IfElse.ensures in
+    let no = c.in_ok-no-in-IfElse.ensures.found ∙ (ap (λ (vs : List Variable). found (ghost_pieces (within (fixed c.args.around) vs) (view.ghost c.deref-in-IfElse-2.result.now))) c.in_ok-yes-in-IfElse.ensures.kept
+    ∙ ap (λ (z : GhostStmt). found (ghost_pieces k (view.ghost z))) c.deref-in-IfElse-2.ensures) in
+    c.then-in-IfElse-2.ensures
+    ∙ (ap (λ (f : Found). joined f (findings c.then-in-IfElse.result)) test
+    ∙ (ap (joined (found (expression k (view.exp s.test)))) (c.then-in-IfElse.ensures ∙ (ap (λ (f : Found). joined f (findings c.in_ok-no-in-IfElse.no)) yes ∙ ap (joined (found (ghost_pieces k (view.ghost s.first.value)))) no))
+    ∙ of_form k c.args.x.now _ _ s.is (if_else_is k s.field-0 (view.exp s.test) (view.ghost s.first.value) (view.ghost s.second.value))))
+
+pub ghost_statements-loop-x-init : goal.ghost_statements-loop-x-init
+ghost_statements-loop-x-init t c =
+    (c.nothing-so_far.ensures ∙ sym found_none, refl)
+
+pub ghost_statements-loop-x-preserved : goal.ghost_statements-loop-x-preserved
+ghost_statements-loop-x-preserved t c =
+    let f = fixed c.args.around in
+    let vs0 = known c.args.variables.now in
+    let k = within f vs0 in
+    let done = map view.ghost (take c.loop-x.x-index c.args.all.now) in
+    let y = view.ghost c.x-item.result in
+    let more = take_at view.ghost c.args.all.now c.loop-x.x-index c.x-item.result c.loop-x-test.true c.x-item.is in
+    let one = c.in_ok-one.ensures.found ∙ ap (λ (vs : List Variable). found (ghost_pieces (within f vs) y)) c.loop-x.invariant.1 in (
+      c.then-so_far.ensures ∙ (ap (λ (z : Found). joined z (findings c.in_ok-one.one)) c.loop-x.invariant.0 ∙ (ap (joined (found (in_ghosts k (ghosts_of done)))) one
+          ∙ (sym (ghosts_found_more f vs0 done y) ∙ ap (λ (ss : List GStm). found (in_ghosts k (ghosts_of ss))) (sym more)))),
+      c.in_ok-know_ghost.ensures ∙ (ap (behind_ghost y) (c.in_ok-one.ensures.kept ∙ c.loop-x.invariant.1) ∙ (sym (behind_ghosts_more done y vs0) ∙ ap (λ (ss : List GStm). behind_ghosts ss vs0) (sym more))),
+    )
+
+pub ghost_statements-keep-requires : goal.ghost_statements-keep-requires
+ghost_statements-keep-requires t c =
+    let vs0 = known c.args.variables.now in
+    let done = map view.ghost (take c.loop-x.x-index c.args.all.now) in
+    let long : length (known c.loop-x.variables) ≡ length (behind_ghosts done vs0) = ap length c.loop-x.invariant.1 in
+    let least : length vs0 ≤ length (behind_ghosts done vs0) = longer vs0 (behind_ghosts done vs0) (grows_ghosts done vs0) in
+    let count : c.count-count.result ≡ length vs0 = c.count-count.ensures in
+    omega arith
+
+pub ghost_statements-returns-clause-found : goal.ghost_statements-returns-clause-found
+ghost_statements-returns-clause-found t c =
+    c.loop-x.invariant.0 ∙ ap (λ (xs : List GhostStmt). found (in_ghosts (within (fixed c.args.around) (known c.args.variables.now)) (ghosts_of (map view.ghost xs)))) (take_all c.args.all.now c.loop-x.x-index (omega arith))
+
+pub ghost_statements-returns-clause-kept : goal.ghost_statements-returns-clause-kept
+ghost_statements-returns-clause-kept t c =
+    let vs0 = known c.args.variables.now in
+    let ws = known c.loop-x.variables in
+    let done = map view.ghost (take c.loop-x.x-index c.args.all.now) in
+    let grown = grows_ghosts done vs0 in
+    let now : Grows vs0 ws = (grown.0, c.loop-x.invariant.1 ∙ grown.1) in
+    c.keep.ensures ∙ (ap (λ (n : ℕ). drop (length ws - n) ws) c.count-count.ensures ∙ kept vs0 ws now)

@@ -1,0 +1,137 @@
+//! Statements.
+
+ghost use Rattle.std.specs.Prelude.{◌≡◌, map, IfOk, OnOk};
+ghost use Rattle.c_syntax.specs.Grammar.{stms_of};
+ghost use Rattle.c_syntax.specs.Views as view;
+ghost use Rattle.c_types.specs.Pieces as pieces;
+ghost use Rattle.declared_names.specs.Scopes.{known};
+ghost use Rattle.expr_rules.specs.Found.{found};
+ghost use Rattle.expr_rules.specs.Views.{findings};
+ghost use Rattle.typing_rules.specs.Views.{fixed, within, statement_pieces};
+
+use crate::ghost_blocks::ghost_statement;
+use crate::scopes::{Surroundings, know};
+use crate::simple::{
+    assertion, assign_statement, atomic_block, call_statement, declaration, do_front, for_front,
+    free_statement, if_front, return_statement, spawn_statement, while_front, wrap_statement,
+};
+use c_syntax::statements::Stmt;
+use declared_names::variables::Variables;
+use expr_rules::context::Quantified;
+use expr_rules::expressions::expression;
+use expr_rules::found::Findings;
+use std::alloc::AllocError;
+
+/// What breaks in a statement. Where memory is wanted the caller gives up.
+#[cycle(statements)]
+pub fn statement<'s, 'a>(
+    around: Surroundings<'s, 'a>,
+    variables: &mut Variables<'a>,
+    x: &'a Stmt,
+) -> Result<Findings, AllocError>
+    ensures found { IfOk result (λ f. findings f ≡ found (statement_pieces (within (fixed around.entry) (known variables.old)) (view.stm x.now))) }
+    ensures kept { OnOk result (known variables.new ≡ known variables.old) }
+{
+    let none = Quantified::Nothing;
+    match x {
+        Stmt::Block(_, all, _) => statements(around, variables, all),
+        Stmt::Skip(_) => Ok(Findings::nothing()),
+        Stmt::Declare(span, ty, _, first) => {
+            let context = around.context(variables, &none);
+            Ok(declaration(context, *span, ty, first))
+        }
+        Stmt::Assign(span, change) => {
+            let context = around.context(variables, &none);
+            Ok(assign_statement(context, *span, change))
+        }
+        Stmt::Call(span, called) => {
+            let context = around.context(variables, &none);
+            Ok(call_statement(context, *span, called))
+        }
+        Stmt::If(span, test, yes) => {
+            let front = if_front(around.context(variables, &none), *span, test);
+            let inner = statement(around, variables, yes)?;
+            Ok(front.then(inner))
+        }
+        Stmt::IfElse(span, test, first, second) => {
+            let front = if_front(around.context(variables, &none), *span, test);
+            let yes = statement(around, variables, first)?;
+            let no = statement(around, variables, second)?;
+            Ok(front.then(yes.then(no)))
+        }
+        Stmt::While(span, test, invariants, body) => {
+            let context = around.context(variables, &none);
+            let front = while_front(context, *span, test, invariants);
+            let inner = statement(around, variables, body)?;
+            Ok(front.then(inner))
+        }
+        Stmt::Do(span, invariants, body, _, test) => {
+            let front = do_front(around.context(variables, &none), *span, invariants);
+            let inner = statement(around, variables, body)?;
+            let condition = expression(around.context(variables, &none), test).found;
+            Ok(front.then(inner.then(condition)))
+        }
+        Stmt::For(span, before, test, after, invariants, body) => {
+            let context = around.context(variables, &none);
+            let front = for_front(context, *span, before, test, after, invariants);
+            let inner = statement(around, variables, body)?;
+            Ok(front.then(inner))
+        }
+        Stmt::Return(span, value) => {
+            let context = around.context(variables, &none);
+            Ok(return_statement(context, *span, value))
+        }
+        Stmt::Spawn(span, called) => {
+            let context = around.context(variables, &none);
+            Ok(spawn_statement(context, *span, called))
+        }
+        Stmt::Free(span, pointer) => {
+            let context = around.context(variables, &none);
+            Ok(free_statement(context, *span, pointer))
+        }
+        Stmt::Assert(span, property) => {
+            let context = around.context(variables, &none);
+            Ok(assertion(context, *span, property))
+        }
+        Stmt::Ghost(_, inner) => ghost_statement(around.as_ghost(), variables, inner),
+        Stmt::Wrap(span, object) => {
+            let context = around.context(variables, &none);
+            Ok(wrap_statement(context, *span, object))
+        }
+        Stmt::Unwrap(span, object) => {
+            let context = around.context(variables, &none);
+            Ok(wrap_statement(context, *span, object))
+        }
+        Stmt::Unwrapping(span, object, all, _) => {
+            let front = wrap_statement(around.context(variables, &none), *span, object);
+            let inner = statements(around.inside_unwrapping(), variables, all)?;
+            Ok(front.then(inner))
+        }
+        Stmt::Atomic(span, objects, all, _) => {
+            let inner = statements(around.inside_atomic(), variables, all)?;
+            let context = around.context(variables, &none);
+            Ok(atomic_block(context, *span, objects, inner))
+        }
+    }
+}
+
+/// What breaks in statements, each of which knows what those before it declare.
+#[cycle(statements)]
+pub fn statements<'s, 'a>(
+    around: Surroundings<'s, 'a>,
+    variables: &mut Variables<'a>,
+    all: &'a [Stmt],
+) -> Result<Findings, AllocError>
+    ensures found { IfOk result (λ f. findings f ≡ found (pieces.in_statements (within (fixed around.entry) (known variables.old)) (stms_of (map view.stm all.now)))) }
+    ensures kept { OnOk result (known variables.new ≡ known variables.old) }
+{
+    let count = variables.count();
+    let mut so_far = Findings::nothing();
+    for x in all {
+        let one = statement(around, variables, x)?;
+        so_far = so_far.then(one);
+        know(variables, x)?;
+    }
+    variables.keep(count);
+    Ok(so_far)
+}
