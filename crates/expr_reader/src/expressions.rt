@@ -307,12 +307,21 @@ fn group<'a>(alloc: Global, mode: Mode, room: u32, tokens: &'a [Token<'a>]) -> R
     let open = take(Sign::Open, tokens)?;
     let inner = expression(alloc, mode, top(mode), room, open.rest)?;
     let close = take(Sign::Close, inner.rest)?;
+    let height = height_in_brackets(inner.height);
     let held = boxed(alloc, inner.value)?;
     Ok(Parsed {
         value: Expr::Group(open.value, held),
-        height: inner.height + 1,
+        height,
         rest: close.rest,
     })
+}
+
+/// How high an expression in brackets is.
+fn height_in_brackets(inner: u32) -> u32
+    requires room { inner < 1000 }
+    ensures { result ≡ inner + 1 }
+{
+    inner + 1
 }
 
 /// An expression that begins with the word of a form.

@@ -100,7 +100,7 @@ pub fn right(operator: BinaryOperator) -> Tier
     ensures { tier_of result ≡ levels.right operator }
 {
     match operator {
-        BinaryOperator::Implies => Tier::Implication,
+        BinaryOperator::Implies => own(operator),
         _ => below(own(operator)),
     }
 }

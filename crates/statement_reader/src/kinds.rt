@@ -3,6 +3,7 @@
 ghost use Rattle.std.specs.Prelude.{◌≡◌, ◌≢◌, ◌==◌, true, false, ℕ, MatchOption};
 ghost use Rattle.ebnf.specs.Sets.{has};
 ghost use Rattle.ebnf.specs.Derives.{next};
+ghost use Rattle.c_syntax.specs.declared.token.Keyword.TheVariants as keywords;
 ghost use Rattle.c_syntax.specs.Classes as classes;
 ghost use Rattle.c_syntax.specs.Lexing.{lexeme};
 ghost use Rattle.c_syntax.specs.Grammar as g;
@@ -13,7 +14,7 @@ ghost use Rattle.statement_reader.specs.declared.kinds.Annotation.{Annotation};
 ghost use Rattle.statement_reader.specs.Rows as rows;
 
 use c_syntax::token::{Keyword, Sign, Token, TokenKind};
-use expr_reader::tokens::next_is;
+use expr_reader::tokens::{next_is, next_is_key};
 
 /// A kind of statement that doesn't begin with `_(`.
 #[derive(Clone, Copy, Debug, PartialEq, Eq)]
@@ -98,6 +99,13 @@ pub fn begins_statement<'a>(tokens: &'a [Token<'a>]) -> bool
         Some(_) => true,
         None => next_is(Sign::Annotation, tokens),
     }
+}
+
+/// Whether an `else` stands here: it belongs to the `if` that ends here.
+pub fn begins_else<'a>(tokens: &'a [Token<'a>]) -> bool
+    ensures { result ≡ (next language (lexemes tokens.now) == classes.key keywords.Else) }
+{
+    next_is_key(Keyword::Else, tokens)
 }
 
 /// How high what stands in a statement is at least.

@@ -18,7 +18,9 @@ use crate::blocks::{
     Block, Body, ForBehind, ForEnd, ForTest, atomic_of, between, block_of, branch_of, do_of,
     for_of, unwrapping_of, while_of,
 };
-use crate::kinds::{Annotation, Kind, annotation_at, begins_statement, kind_at, least};
+use crate::kinds::{
+    Annotation, Kind, annotation_at, begins_else, begins_statement, kind_at, least,
+};
 use crate::loops::{do_end, invariants, maybe_assigned};
 use crate::simple::{
     declaration, free_statement, inside, named, other, return_statement, skip, spawn,
@@ -29,7 +31,7 @@ use expr_reader::expressions::list;
 use expr_reader::levels::{Mode, Tier};
 use expr_reader::memory::add;
 use expr_reader::reading::{Parsed, ReadFault, Reading, fits};
-use expr_reader::tokens::{next_is, next_is_key, take, take_key};
+use expr_reader::tokens::{next_is, take, take_key};
 use sides::calls::code;
 use std::alloc::Global;
 
@@ -159,7 +161,7 @@ fn maybe_else<'a>(alloc: Global, room: u32, tokens: &'a [Token<'a>]) -> Reading<
     ensures gives { Gives (option_map stm) result (part room (g.optional g.else_part) (lexemes tokens.now)) }
     ensures low { IfOk result (λ x. x.height ≤ room) }
 {
-    if !next_is_key(Keyword::Else, tokens) {
+    if !begins_else(tokens) {
         return Ok(Parsed {
             value: None,
             height: 0,
