@@ -122,11 +122,11 @@ fn one_arrow<'a>(alloc: Global, mode: Mode, room: u32, left: Parsed<'a, Expr>) -
     ensures gives { Gives exp result (one_link room (levels.arrow (mode_of mode)) (exp left.entry.value) left.entry.height (lexemes left.entry.rest.now)) }
     ensures low { IfOk result (λ x. x.height ≤ room + 1) }
 {
+    let held = boxed(alloc, left.value)?;
     fits(left.height.max(least(mode)), room, left.rest)?;
     let arrow = take(Sign::Arrow, left.rest)?;
     let behind = suffix_of(alloc, mode, room, arrow.rest)?;
     let height = left.height.max(behind.height) + 1;
-    let held = boxed(alloc, left.value)?;
     Ok(Parsed {
         value: suffixed(behind.value, arrow.value, held),
         height,
@@ -142,10 +142,10 @@ pub fn first_arrow<'a>(alloc: Global, room: u32, left: Parsed<'a, Expr>) -> Read
     ensures gives { Gives exp result (joined (exp left.entry.value) left.entry.height (part room g.spec_arrow (lexemes left.entry.rest.now))) }
     ensures low { IfOk result (λ x. x.height ≤ room + 1) }
 {
+    let held = boxed(alloc, left.value)?;
     let arrow = take(Sign::Arrow, left.rest)?;
     let behind = spec_suffix(alloc, room, arrow.rest)?;
     let height = left.height.max(behind.height) + 1;
-    let held = boxed(alloc, left.value)?;
     Ok(Parsed {
         value: suffixed(behind.value, arrow.value, held),
         height,
@@ -210,11 +210,11 @@ fn climb_step<'a>(alloc: Global, room: u32, left: Parsed<'a, Expr>) -> Reading<'
     ensures gives { Gives exp result (suffixes.step room (exp left.entry.value) left.entry.height (lexemes left.entry.rest.now)) }
     ensures low { IfOk result (λ x. x.height ≤ room) }
 {
+    let held = boxed(alloc, left.value)?;
     let arrow = take(Sign::Arrow, left.rest)?;
     fits(left.height.max(1) + 1, room, arrow.rest)?;
     let behind = climb_suffix(alloc, room, arrow.rest)?;
     let height = left.height.max(behind.height) + 1;
-    let held = boxed(alloc, left.value)?;
     Ok(Parsed {
         value: suffixed(behind.value, arrow.value, held),
         height,
@@ -229,9 +229,9 @@ fn climb_end<'a>(alloc: Global, left: Parsed<'a, Expr>) -> Reading<'a, Expr>
     ensures gives { Gives exp result (suffixes.end 0 (exp left.entry.value) left.entry.height (lexemes left.entry.rest.now)) }
     ensures high { IfOk result (λ x. x.height ≡ left.entry.height + 1) }
 {
+    let held = boxed(alloc, left.value)?;
     let arrow = take(Sign::Arrow, left.rest)?;
     let word = take_spec(SpecWord::Owns, arrow.rest)?;
-    let held = boxed(alloc, left.value)?;
     Ok(Parsed {
         value: Expr::Owns(arrow.value, held, word.value),
         height: left.height + 1,

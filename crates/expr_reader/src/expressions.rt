@@ -140,14 +140,14 @@ fn conditional<'a>(
     ensures gives { Gives exp result (joined (exp left.entry.value) left.entry.height (part room (levels.conditional (mode_of mode)) (lexemes left.entry.rest.now))) }
     ensures low { IfOk result (λ x. x.height ≤ room + 1) }
 {
+    let condition = boxed(alloc, left.value)?;
     let question = take(Sign::Question, left.rest)?;
     let yes = expression(alloc, mode, Tier::Choice, room, question.rest)?;
+    let first = boxed(alloc, yes.value)?;
     let colon = take(Sign::Colon, yes.rest)?;
     let no = expression(alloc, mode, Tier::Choice, room, colon.rest)?;
-    let height = left.height.max(yes.height).max(no.height) + 1;
-    let condition = boxed(alloc, left.value)?;
-    let first = boxed(alloc, yes.value)?;
     let second = boxed(alloc, no.value)?;
+    let height = left.height.max(yes.height).max(no.height) + 1;
     Ok(Parsed {
         value: Expr::Conditional(question.value, condition, first, second),
         height,
@@ -170,13 +170,13 @@ fn binary<'a>(
     ensures gives { Gives exp result (joined (exp left.entry.value) left.entry.height (part room (levels.binary (mode_of mode) operator) (lexemes left.entry.rest.now))) }
     ensures low { IfOk result (λ x. x.height ≤ room + 1) }
 {
+    let first = boxed(alloc, left.value)?;
     let sign = take_operator(operator, left.rest)?;
     let other = expression(alloc, mode, right(operator), room, sign.rest)?;
+    let second = boxed(alloc, other.value)?;
     let height = left.height.max(other.height) + 1;
-    let left = boxed(alloc, left.value)?;
-    let right = boxed(alloc, other.value)?;
     Ok(Parsed {
-        value: Expr::Binary(sign.value, operator, left, right),
+        value: Expr::Binary(sign.value, operator, first, second),
         height,
         rest: other.rest,
     })
@@ -191,11 +191,11 @@ fn membership<'a>(alloc: Global, room: u32, left: Parsed<'a, Expr>) -> Reading<'
     ensures gives { Gives exp result (joined (exp left.entry.value) left.entry.height (part room levels.membership (lexemes left.entry.rest.now))) }
     ensures low { IfOk result (λ x. x.height ≤ room + 1) }
 {
+    let member = boxed(alloc, left.value)?;
     let word = take_spec(SpecWord::In, left.rest)?;
     let set = owned_set(alloc, room, word.rest)?;
-    let height = left.height.max(set.height) + 1;
-    let member = boxed(alloc, left.value)?;
     let owner = boxed(alloc, set.value)?;
+    let height = left.height.max(set.height) + 1;
     Ok(Parsed {
         value: Expr::Binary(word.value, BinaryOperator::In, member, owner),
         height,
@@ -306,9 +306,9 @@ fn group<'a>(alloc: Global, mode: Mode, room: u32, tokens: &'a [Token<'a>]) -> R
 {
     let open = take(Sign::Open, tokens)?;
     let inner = expression(alloc, mode, top(mode), room, open.rest)?;
+    let held = boxed(alloc, inner.value)?;
     let close = take(Sign::Close, inner.rest)?;
     let height = height_in_brackets(inner.height);
-    let held = boxed(alloc, inner.value)?;
     Ok(Parsed {
         value: Expr::Group(open.value, held),
         height,
@@ -369,9 +369,9 @@ fn apply<'a>(
     let word = take_spec(word_of_function(function), tokens)?;
     let open = take(Sign::Open, word.rest)?;
     let argument = expression(alloc, Mode::Spec, argument_tier(function), room, open.rest)?;
+    let held = boxed(alloc, argument.value)?;
     let close = take(Sign::Close, argument.rest)?;
     let height = argument.height + 1;
-    let held = boxed(alloc, argument.value)?;
     Ok(Parsed {
         value: Expr::Apply(word.value, function, held),
         height,
@@ -390,14 +390,14 @@ fn paired<'a>(alloc: Global, pair: Pair, room: u32, tokens: &'a [Token<'a>]) -> 
     let word = take_spec(word_of_pair(pair), tokens)?;
     let open = take(Sign::Open, word.rest)?;
     let first = expression(alloc, Mode::Spec, Tier::Choice, room, open.rest)?;
+    let left = boxed(alloc, first.value)?;
     let comma = take(Sign::Comma, first.rest)?;
     let second = expression(alloc, Mode::Spec, second_tier(pair), room, comma.rest)?;
+    let right = boxed(alloc, second.value)?;
     let close = take(Sign::Close, second.rest)?;
     let height = first.height.max(second.height) + 1;
-    let first = boxed(alloc, first.value)?;
-    let second = boxed(alloc, second.value)?;
     Ok(Parsed {
-        value: joined(pair, word.value, first, second),
+        value: joined(pair, word.value, left, right),
         height,
         rest: close.rest,
     })
@@ -782,11 +782,11 @@ fn and_membership<'a>(alloc: Global, room: u32, left: Parsed<'a, Expr>) -> Readi
     ensures gives { Gives exp result (joined (exp left.entry.value) left.entry.height (part room g.and_membership (lexemes left.entry.rest.now))) }
     ensures low { IfOk result (λ x. x.height ≤ room + 1) }
 {
+    let first = boxed(alloc, left.value)?;
     let sign = take(Sign::And, left.rest)?;
     let other = membership_of(alloc, room, sign.rest)?;
-    let height = left.height.max(other.height) + 1;
-    let first = boxed(alloc, left.value)?;
     let second = boxed(alloc, other.value)?;
+    let height = left.height.max(other.height) + 1;
     Ok(Parsed {
         value: Expr::Binary(sign.value, BinaryOperator::And, first, second),
         height,
@@ -803,11 +803,11 @@ fn implies_body<'a>(alloc: Global, room: u32, left: Parsed<'a, Expr>) -> Reading
     ensures gives { Gives exp result (joined (exp left.entry.value) left.entry.height (part room g.implies_body (lexemes left.entry.rest.now))) }
     ensures low { IfOk result (λ x. x.height ≤ room + 1) }
 {
+    let first = boxed(alloc, left.value)?;
     let sign = take(Sign::Implies, left.rest)?;
     let other = set_body(alloc, room, sign.rest)?;
-    let height = left.height.max(other.height) + 1;
-    let first = boxed(alloc, left.value)?;
     let second = boxed(alloc, other.value)?;
+    let height = left.height.max(other.height) + 1;
     Ok(Parsed {
         value: Expr::Binary(sign.value, BinaryOperator::Implies, first, second),
         height,
