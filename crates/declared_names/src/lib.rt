@@ -4,6 +4,4 @@
 pub mod declarations;
 mod first;
 pub mod seen;
-#[cfg(test)]
-mod tests;
 pub mod variables;

@@ -1,4 +1,5 @@
-//! Tables for the layers of the reader, apart from them: a crate with tests is proved twice.
+//! Tables for the layers of the reader and for the names that a program declares, apart from them: a crate with tests is proved
+//! twice, and the drops of trees are proved in each crate that drops them.
 #![tactic(auto)]
 
 #[cfg(test)]
@@ -7,6 +8,8 @@ mod annotation_tests;
 mod annotations;
 #[cfg(test)]
 mod both_sides;
+#[cfg(test)]
+mod declarations;
 #[cfg(test)]
 mod heights;
 #[cfg(test)]

@@ -158,7 +158,8 @@ fn read(alloc: Global, mode: Mode, room: u32, source: &[u8]) -> Result<String, A
     };
     match expression(alloc, mode, top(mode), room, &list) {
         Ok(found) => {
-            write_expr(&mut text, &found.value)?;
+            let expr = Box::new(alloc, found.value)?;
+            write_expr(&mut text, &expr)?;
             let height = found.height;
             write!(text, " {height}")?;
             write_place(&mut text, found.rest)?;
@@ -396,7 +397,7 @@ fn height_is_bounded_where_it_is_passed(rt: HostRuntime) -> Result<(), AllocErro
 }
 
 /// The height of what was read, and the place behind it; or the fault.
-fn told(text: &mut String, found: Reading<'_, Stmt>) -> Result<(), AllocError> {
+fn told<'a, T: Drop>(text: &mut String, found: Reading<'a, T>) -> Result<(), AllocError> {
     match found {
         Ok(found) => {
             let height = found.height;
@@ -658,7 +659,8 @@ fn any_statement(alloc: Global, room: u32, source: &[u8]) -> Result<String, Allo
     };
     match statement_reader::statements::statement(alloc, room, &list) {
         Ok(found) => {
-            write_stmt(&mut text, &found.value)?;
+            let stmt = Box::new(alloc, found.value)?;
+            write_stmt(&mut text, &stmt)?;
             let height = found.height;
             write!(text, " {height}")?;
             write_place(&mut text, found.rest)?;

@@ -1,10 +1,12 @@
-use crate::declarations::{Declarations, StructEntry};
-use crate::seen::Seen;
-use crate::variables::{Variable, Variables};
+//! What a program declares: names, fields and attributes, and variables that hide each other.
+
 use c_syntax::expressions::{Identifier, ValueType};
 use c_syntax::items::{FieldDeclaration, Function, Item, Member, Struct};
 use c_syntax::token::Span;
 use c_syntax::tree::Attribute;
+use declared_names::declarations::{Declarations, StructEntry};
+use declared_names::seen::Seen;
+use declared_names::variables::{Variable, Variables};
 use std::alloc::{AllocError, Global};
 use std::process::Abort;
 use std::test::*;
