@@ -5,6 +5,7 @@ pub mod allocations;
 pub mod assignments;
 pub mod begins;
 pub mod calls;
+pub mod ends;
 pub mod interlocked;
 pub mod places;
 pub mod rights;

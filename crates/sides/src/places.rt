@@ -65,10 +65,10 @@ fn after_arrow<'a>(alloc: Global, left: Parsed<'a, Expr>) -> Reading<'a, Expr>
     ensures gives { Gives exp result (joined (exp left.entry.value) left.entry.height (part 0 g.arrow (lexemes left.entry.rest.now))) }
     ensures high { IfOk result (λ x. x.height ≡ suc (max left.entry.height 1)) }
 {
+    let held = boxed(alloc, left.value)?;
     let behind = arrow(alloc, left.rest)?;
     let (span, field) = behind.value;
     let height = left.height.max(behind.height) + 1;
-    let held = boxed(alloc, left.value)?;
     Ok(Parsed {
         value: Expr::Field(span, held, field),
         height,
