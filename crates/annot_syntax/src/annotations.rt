@@ -13,6 +13,7 @@ use c_syntax::token::{Keyword, Sign, Token};
 use expr_reader::reading::{Parsed, ReadFault, Reading};
 use expr_reader::tokens::{take, take_key};
 use sides::calls::code;
+use sides::ends::ended;
 use std::alloc::Global;
 
 /// `assert` and what is asserted.
@@ -41,10 +42,11 @@ pub fn ghost_behind<'a>(alloc: Global, room: u32, tokens: &'a [Token<'a>]) -> Re
 {
     let word = take_key(Keyword::Ghost, tokens)?;
     let found = ghost_body(alloc, room, word.rest)?;
-    let end = take(Sign::Close, found.rest)?;
+    let end = ended(Sign::Close, found)?;
+    let (value, _) = end.value;
     Ok(Parsed {
-        value: found.value,
-        height: found.height,
+        value,
+        height: end.height,
         rest: end.rest,
     })
 }

@@ -81,10 +81,10 @@ fn after_arrow<'a>(alloc: Global, room: u32, left: Parsed<'a, Expr>) -> Reading<
     ensures gives { Gives exp result (joined (exp left.entry.value) left.entry.height (part room g.ghost_arrow (lexemes left.entry.rest.now))) }
     ensures low { IfOk result (λ x. x.height ≤ room + 1) }
 {
+    let held = boxed(alloc, left.value)?;
     let behind = arrow(alloc, room, left.rest)?;
     let (span, suffix) = behind.value;
     let height = left.height.max(behind.height) + 1;
-    let held = boxed(alloc, left.value)?;
     Ok(Parsed {
         value: suffixed(suffix, span, held),
         height,

@@ -9,7 +9,7 @@ ghost use Rattle.c_syntax.specs.Ghosts as h;
 ghost use Rattle.c_syntax.specs.Grammar as g;
 ghost use Rattle.c_syntax.specs.Language.{language};
 ghost use Rattle.c_syntax.specs.Views.{exp, ghost as ghost_of};
-ghost use Rattle.expr_reader.specs.Reading.{Gives, IsOutOfMemory, lexemes, part, rule_at, entered, extended};
+ghost use Rattle.expr_reader.specs.Reading.{Gives, lexemes, part, rule_at, entered, extended};
 ghost use Rattle.annot_syntax.specs.Rows as rows;
 
 use crate::ghost_rights::semicolon_or_none;
@@ -77,23 +77,17 @@ fn in_brackets<'a>(alloc: Global, room: u32, tokens: &'a [Token<'a>]) -> Reading
 }
 
 /// An `if`, with an `else` where there is one.
-fn if_of<'a>(
-    alloc: Global,
+fn if_of(
     span: Span,
     condition: Expr,
-    then: GhostStmt,
-    other: Option<GhostStmt>,
-) -> Result<GhostStmt, ReadFault<'a>>
-    ensures ok { IfOk result (λ x. ghost_of x ≡ g.ghost_if span (exp condition) (ghost_of then) (option_map ghost_of other)) }
-    ensures err { IfErr result IsOutOfMemory }
+    then: Box<GhostStmt>,
+    other: Option<Box<GhostStmt>>,
+) -> GhostStmt
+    ensures { ghost_of result ≡ g.ghost_if span (exp condition) (ghost_of then.value) (option_map (λ x. ghost_of x.value) other) }
 {
-    let held = boxed(alloc, then)?;
     match other {
-        None => Ok(GhostStmt::If(span, condition, held)),
-        Some(other) => {
-            let behind = boxed(alloc, other)?;
-            Ok(GhostStmt::IfElse(span, condition, held, behind))
-        }
+        None => GhostStmt::If(span, condition, then),
+        Some(other) => GhostStmt::IfElse(span, condition, then, other),
     }
 }
 
@@ -111,15 +105,16 @@ fn some_else<'a>(
     alloc: Global,
     room: u32,
     tokens: &'a [Token<'a>],
-) -> Reading<'a, Option<GhostStmt>>
+) -> Reading<'a, Option<Box<GhostStmt>>>
     requires room { room < 1000 }
-    ensures gives { Gives (option_map ghost_of) result (part room rows.some_else (lexemes tokens.now)) }
+    ensures gives { Gives (option_map (λ x. ghost_of x.value)) result (part room rows.some_else (lexemes tokens.now)) }
     ensures low { IfOk result (λ x. x.height ≤ room) }
 {
     let word = take_key(Keyword::Else, tokens)?;
     let body = ghost_body(alloc, room, word.rest)?;
+    let held = boxed(alloc, body.value)?;
     Ok(Parsed {
-        value: Some(body.value),
+        value: Some(held),
         height: body.height,
         rest: body.rest,
     })
@@ -132,9 +127,9 @@ fn else_or_none<'a>(
     alloc: Global,
     room: u32,
     tokens: &'a [Token<'a>],
-) -> Reading<'a, Option<GhostStmt>>
+) -> Reading<'a, Option<Box<GhostStmt>>>
     requires room { room < 1000 }
-    ensures gives { Gives (option_map ghost_of) result (part room rows.else_or_none (lexemes tokens.now)) }
+    ensures gives { Gives (option_map (λ x. ghost_of x.value)) result (part room rows.else_or_none (lexemes tokens.now)) }
     ensures low { IfOk result (λ x. x.height ≤ room) }
 {
     if !next_is_key(Keyword::Else, tokens) {
@@ -159,12 +154,12 @@ fn if_rule<'a>(alloc: Global, room: u32, tokens: &'a [Token<'a>]) -> Reading<'a,
     let word = take_key(Keyword::If, tokens)?;
     let condition = in_brackets(alloc, room, word.rest)?;
     let then = ghost_body(alloc, room, condition.rest)?;
+    let held = boxed(alloc, then.value)?;
     let other = else_or_none(alloc, room, then.rest)?;
     let end = semicolon_or_none(room, other.rest)?;
     let height = condition.height.max(then.height).max(other.height) + 1;
-    let value = if_of(alloc, word.value, condition.value, then.value, other.value)?;
     Ok(Parsed {
-        value,
+        value: if_of(word.value, condition.value, held, other.value),
         height,
         rest: end.rest,
     })
