@@ -20,7 +20,7 @@ braces x = record { start = x.start; all = stms x.statements.items; end = x.end 
 
 -- invariants, and the body behind them
 abbrev pub body : Body → List Inv × Stm
-body x = (map invariant x.invariants.items, stm x.inner)
+body x = (map invariant x.invariants.items, stm x.inner.value)
 
 -- what stands behind the body of a `do`, as what it makes of the body and the place of `do`
 abbrev pub do_end : DoEnd → List Inv × Stm → Span → Stm

@@ -29,7 +29,7 @@ pub struct Block {
 #[derive(Drop)]
 pub struct Body {
     pub invariants: Vec<Invariant>,
-    pub inner: Stmt,
+    pub inner: Box<Stmt>,
 }
 
 /// What stands behind the body of a `do`: the word `while`, and the condition.
@@ -98,13 +98,12 @@ pub fn branch_of<'a>(
     alloc: Global,
     span: Span,
     condition: Expr,
-    first: Stmt,
+    held: Box<Stmt>,
     second: Option<Stmt>,
 ) -> Result<Stmt, ReadFault<'a>>
-    ensures ok { IfOk result (λ x. stm x ≡ g.if_of span (exp condition) (stm first) (option_map stm second)) }
+    ensures ok { IfOk result (λ x. stm x ≡ g.if_of span (exp condition) (stm held.value) (option_map stm second)) }
     ensures err { IfErr result IsOutOfMemory }
 {
-    let held = boxed(alloc, first)?;
     match second {
         None => Ok(Stmt::If(span, condition, held)),
         Some(second) => {
@@ -115,43 +114,32 @@ pub fn branch_of<'a>(
 }
 
 /// `while` with its body.
-pub fn while_of<'a>(
-    alloc: Global,
-    span: Span,
-    condition: Expr,
-    found: Body,
-) -> Result<Stmt, ReadFault<'a>>
-    ensures ok { IfOk result (λ x. stm x ≡ st.While span (exp condition) (body found).0 (body found).1) }
-    ensures err { IfErr result IsOutOfMemory }
+pub fn while_of(span: Span, condition: Expr, found: Body) -> Stmt
+    ensures { stm result ≡ st.While span (exp condition) (body found).0 (body found).1 }
 {
-    let inner = boxed(alloc, found.inner)?;
-    Ok(Stmt::While(span, condition, found.invariants, inner))
+    Stmt::While(span, condition, found.invariants, found.inner)
 }
 
 /// `do` with its body.
-pub fn do_of<'a>(alloc: Global, span: Span, found: Body, end: DoEnd) -> Result<Stmt, ReadFault<'a>>
-    ensures ok { IfOk result (λ x. stm x ≡ views.do_end end (body found) span) }
-    ensures err { IfErr result IsOutOfMemory }
+pub fn do_of(span: Span, found: Body, end: DoEnd) -> Stmt
+    ensures { stm result ≡ views.do_end end (body found) span }
 {
-    let inner = boxed(alloc, found.inner)?;
-    Ok(Stmt::Do(span, found.invariants, inner, end.span, end.condition))
+    Stmt::Do(span, found.invariants, found.inner, end.span, end.condition)
 }
 
 /// `for` with its body.
-pub fn for_of<'a>(alloc: Global, span: Span, found: ForBehind) -> Result<Stmt, ReadFault<'a>>
-    ensures ok { IfOk result (λ x. stm x ≡ views.for_behind found span) }
-    ensures err { IfErr result IsOutOfMemory }
+pub fn for_of(span: Span, found: ForBehind) -> Stmt
+    ensures { stm result ≡ views.for_behind found span }
 {
     let test = found.behind;
     let end = test.behind;
     let body = end.body;
-    let inner = boxed(alloc, body.inner)?;
-    Ok(Stmt::For(
+    Stmt::For(
         span,
         found.first,
         test.condition,
         end.change,
         body.invariants,
-        inner,
-    ))
+        body.inner,
+    )
 }

@@ -29,7 +29,7 @@ use c_syntax::statements::Stmt;
 use c_syntax::token::{Keyword, Sign, Span, Token};
 use expr_reader::expressions::list;
 use expr_reader::levels::{Mode, Tier};
-use expr_reader::memory::add;
+use expr_reader::memory::{add, boxed};
 use expr_reader::reading::{Parsed, ReadFault, Reading, fits};
 use expr_reader::tokens::{next_is, take, take_key};
 use sides::calls::code;
@@ -188,15 +188,10 @@ fn branch<'a>(alloc: Global, room: u32, tokens: &'a [Token<'a>]) -> Reading<'a, 
     let word = take_key(Keyword::If, tokens)?;
     let condition = inside(alloc, room, word.rest)?;
     let first = statement(alloc, room, condition.rest)?;
+    let held = boxed(alloc, first.value)?;
     let second = maybe_else(alloc, room, first.rest)?;
     let height = condition.height.max(first.height).max(second.height) + 1;
-    let value = branch_of(
-        alloc,
-        word.value,
-        condition.value,
-        first.value,
-        second.value,
-    )?;
+    let value = branch_of(alloc, word.value, condition.value, held, second.value)?;
     Ok(Parsed {
         value,
         height,
@@ -213,10 +208,11 @@ fn loop_body<'a>(alloc: Global, room: u32, tokens: &'a [Token<'a>]) -> Reading<'
 {
     let found = invariants(alloc, room, tokens)?;
     let inner = statement(alloc, room, found.rest)?;
+    let held = boxed(alloc, inner.value)?;
     Ok(Parsed {
         value: Body {
             invariants: found.value,
-            inner: inner.value,
+            inner: held,
         },
         height: found.height.max(inner.height),
         rest: inner.rest,
@@ -235,9 +231,8 @@ fn while_loop<'a>(alloc: Global, room: u32, tokens: &'a [Token<'a>]) -> Reading<
     let condition = inside(alloc, room, word.rest)?;
     let found = loop_body(alloc, room, condition.rest)?;
     let height = condition.height.max(found.height) + 1;
-    let value = while_of(alloc, word.value, condition.value, found.value)?;
     Ok(Parsed {
-        value,
+        value: while_of(word.value, condition.value, found.value),
         height,
         rest: found.rest,
     })
@@ -255,9 +250,8 @@ fn do_loop<'a>(alloc: Global, room: u32, tokens: &'a [Token<'a>]) -> Reading<'a,
     let found = loop_body(alloc, room, word.rest)?;
     let end = do_end(alloc, room, found.rest)?;
     let height = found.height.max(end.height) + 1;
-    let value = do_of(alloc, word.value, found.value, end.value)?;
     Ok(Parsed {
-        value,
+        value: do_of(word.value, found.value, end.value),
         height,
         rest: end.rest,
     })
@@ -337,9 +331,8 @@ fn for_loop<'a>(alloc: Global, room: u32, tokens: &'a [Token<'a>]) -> Reading<'a
 {
     let word = take_key(Keyword::For, tokens)?;
     let found = for_behind(alloc, room, word.rest)?;
-    let value = for_of(alloc, word.value, found.value)?;
     Ok(Parsed {
-        value,
+        value: for_of(word.value, found.value),
         height: found.height + 1,
         rest: found.rest,
     })

@@ -96,7 +96,7 @@ pub loop_body-returns-in_err-inner-clause-gives : goal.loop_body-returns-in_err-
 loop_body-returns-in_err-inner-clause-gives t c = let p = err_from_is_err_and c.from_residual-in_err-inner.result c.from_residual-in_err-inner.ensures.1 in rw (p.1, p.2) (first_err stm body _ _ _ _ c.in_ok-found.ensures.ok c.in_err-inner.ensures.gives)
 
 pub loop_body-returns-clause-gives : goal.loop_body-returns-clause-gives
-loop_body-returns-clause-gives t c = c.in_ok-found.ensures.ok ∙ ap (bodied _ _) c.in_ok-inner.ensures.gives ∙ ap (λ i. Ok ((map invariant c.in_ok-found.found.value.items, stm c.in_ok-inner.inner.value), i, lexemes c.in_ok-inner.inner.rest.now)) (sym c.max.ensures)
+loop_body-returns-clause-gives t c = c.in_ok-found.ensures.ok ∙ ap (bodied _ _) c.in_ok-inner.ensures.gives ∙ ap (λ i. Ok ((map invariant c.in_ok-found.found.value.items, stm c.in_ok-inner.inner.value), i, lexemes c.in_ok-inner.inner.rest.now)) (sym c.max.ensures) ∙ ap (λ s. Ok ((map invariant c.in_ok-found.found.value.items, stm s), c.max.result, lexemes c.in_ok-inner.inner.rest.now)) (sym c.in_ok-held.ensures.ok)
 
 pub simple-returns-in_err-fits-clause-gives : goal.simple-returns-in_err-fits-clause-gives
 simple-returns-in_err-fits-clause-gives t c = let p = err_from_is_err_and c.from_residual.result c.from_residual.ensures.1 in let e = c.in_err-fits.ensures.err in rw (p.1, p.2) (high_gives stm _ _ _ e.1 (kind_high (λ x. x) _ c.args.room (lexemes c.args.tokens.now) (ap (λ i. nat_le i c.args.room) (sym c.least.ensures) ∙ e.0) c.in-Some.ensures))
