@@ -1,0 +1,4 @@
+pub mod Repeated
+pub mod Declaring
+pub mod Firsts
+pub mod Steps
