@@ -1,0 +1,9 @@
+pub mod Trees
+pub mod Numbers
+pub mod Codes
+pub mod Annotations
+pub mod Shapes
+pub mod Variables
+pub mod Statements
+pub mod Sites
+pub mod Tables
