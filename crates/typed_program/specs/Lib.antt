@@ -7,3 +7,5 @@ pub mod Variables
 pub mod Statements
 pub mod Sites
 pub mod Tables
+pub mod Rows
+pub mod LockRow
