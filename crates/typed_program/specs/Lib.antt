@@ -9,3 +9,4 @@ pub mod Sites
 pub mod Tables
 pub mod Rows
 pub mod LockRow
+pub mod TableRows
