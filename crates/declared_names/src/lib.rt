@@ -2,7 +2,7 @@
 #![tactic(auto)]
 
 pub mod declarations;
-mod first;
+pub mod first;
 pub mod seen;
 #[cfg(test)]
 mod tests;
