@@ -1,5 +1,5 @@
 pub mod Declared
-pub mod Fields
+pub mod Counts
 pub mod Nesting
 pub mod Places
 pub mod Tables

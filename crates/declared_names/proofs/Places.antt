@@ -79,3 +79,15 @@ module _ {X Y : Type 0} (f : X → Y) (q : Y → Bool) (xs : List X) (ys : List 
 
   pub one_found : (k : ℕ) (x : X) → Some k ≡ position (λ z. q (f z)) xs → x ≡ get_or xs k x → Some (f x) ≡ find q ys
   one_found k x e there = lookup_one f q xs xs _ (find_place (λ z. q (f z)) xs) k x e (place_within (λ z. q (f z)) xs k e) there ∙ ap (find q) same
+
+position_from-map : {X Y : Type 0} (f : X → Y) (q : Y → Bool) (i : ℕ) (xs : List X) → position_from (λ x. q (f x)) i xs ≡ position_from q i (map f xs)
+position_from-map f q i [] = refl
+position_from-map f q i (x ∷ xs) = by (q (f x)) (position_from-map f q (i + 1) xs)
+  where
+    by : (b : Bool) → position_from (λ z. q (f z)) (i + 1) xs ≡ position_from q (i + 1) (map f xs) → cond b (Some i) (position_from (λ z. q (f z)) (i + 1) xs) ≡ cond b (Some i) (position_from q (i + 1) (map f xs))
+    by true more = refl
+    by false more = more
+
+-- the first place is the same in what a list stands for
+pub position_in : {X Y : Type 0} (f : X → Y) (q : Y → Bool) (xs : List X) (ys : List Y) → map f xs ≡ ys → position (λ x. q (f x)) xs ≡ position q ys
+position_in f q xs ys same = position_from-zero (λ x. q (f x)) xs ∙ position_from-map f q 0 xs ∙ sym (position_from-zero q (map f xs)) ∙ ap (position q) same

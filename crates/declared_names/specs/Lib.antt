@@ -1,3 +1,4 @@
+pub mod Counts
 pub mod Hidden
 pub mod Lookup
 pub mod Names

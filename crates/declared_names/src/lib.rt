@@ -2,6 +2,6 @@
 #![tactic(auto)]
 
 pub mod declarations;
-mod first;
+pub mod first;
 pub mod seen;
 pub mod variables;

@@ -1,0 +1,26 @@
+-- What values of the code stand for.
+use Rattle.std.specs.Prelude.{ℕ, List, map, length}
+use Rattle.c_syntax.specs.declared.expressions.Identifier.{Identifier}
+use Rattle.std.specs.Borrow.{Bor}
+use Rattle.expr_rules.specs.Views.{context, maybe_kind, quantified}
+use Rattle.typed_program.specs.Numbers as n
+use Rattle.typed_program.specs.Views as view
+use Rattle.code_typing.specs.declared.places.Places.{Places}
+use Rattle.code_typing.specs.declared.around.Around.{Around}
+use Rattle.code_typing.specs.declared.around.Meaning.{Meaning}
+use Rattle.code_typing.specs.declared.around.Meaning.TheVariants as meanings
+use Rattle.code_typing.specs.declared.codes.Typed.{Typed}
+use Rattle.code_typing.specs.Names.{texts}
+use Rattle.code_typing.specs.Typing as spec
+
+-- what stands around a text
+abbrev pub around : Around → n.Around
+around a = record { context = context a.context; names = texts a.places.now.names.items; bound = length (quantified a.context.scope.quantified.now) }
+
+abbrev pub meaning : Meaning → n.Meaning
+meaning (meanings.OfQuantifier i) = n.OfQuantifier i
+meaning (meanings.OfFunction i) = n.OfFunction i
+meaning (meanings.OwnField i) = n.OwnField i
+
+abbrev pub typed : Typed → spec.Typed
+typed x = record { code = view.code x.code; kind = maybe_kind x.kind; ty = x.ty }
