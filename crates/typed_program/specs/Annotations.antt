@@ -14,7 +14,7 @@ use Rattle.c_syntax.specs.declared.tree.SpecFunction.TheVariants as f
 use Rattle.c_syntax.specs.declared.tree.Quantifier.TheVariants as q
 use Rattle.c_syntax.specs.Expressions as e
 use Rattle.c_syntax.specs.Expressions.{Id, Ty, Exp, Exps}
-use Rattle.c_types.specs.Contexts.{with_quantified}
+use Rattle.c_types.specs.Contexts.{deeper, with_quantified}
 use Rattle.method.specs.declared.program.DeclaredType.{DeclaredType}
 use Rattle.typed_program.specs.Trees as t
 use Rattle.typed_program.specs.Trees.{Spec, Specs, Stop, With}
@@ -102,7 +102,7 @@ append (With x xs) ys = With x (append xs ys)
 
 -- what stands around a quantifier's body
 abbrev pub within_quantifier : Ty → Id → Around → Around
-within_quantifier ty x a = record a { context = with_quantified ty x a.context; bound = 1 + a.bound }
+within_quantifier ty x a = record a { context = with_quantified ty x (deeper a.context); bound = 1 + a.bound }
 
 -- ---- expressions
 
