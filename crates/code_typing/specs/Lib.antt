@@ -1,3 +1,4 @@
 pub mod Names
+pub mod Operators
 pub mod Typing
 pub mod Views

@@ -9,7 +9,7 @@ use Rattle.code_typing.specs.declared.places.Places.{Places}
 use Rattle.code_typing.specs.declared.around.Around.{Around}
 use Rattle.code_typing.specs.declared.around.Meaning.{Meaning}
 use Rattle.code_typing.specs.declared.around.Meaning.TheVariants as meanings
-use Rattle.code_typing.specs.declared.codes.Typed.{Typed}
+use Rattle.code_typing.specs.declared.codes.TypedCode.{TypedCode}
 use Rattle.code_typing.specs.Names.{texts}
 use Rattle.code_typing.specs.Typing as spec
 
@@ -22,5 +22,5 @@ meaning (meanings.OfQuantifier i) = n.OfQuantifier i
 meaning (meanings.OfFunction i) = n.OfFunction i
 meaning (meanings.OwnField i) = n.OwnField i
 
-abbrev pub typed : Typed → spec.Typed
+abbrev pub typed : TypedCode → spec.Typed
 typed x = record { code = view.code x.code; kind = maybe_kind x.kind; ty = x.ty }

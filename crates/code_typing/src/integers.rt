@@ -4,9 +4,10 @@ ghost use Rattle.std.specs.Prelude.{◌≡◌};
 ghost use Rattle.std.specs.Option.{option_map};
 ghost use Rattle.c_syntax.specs.Views as view;
 ghost use Rattle.typed_program.specs.Codes as spec;
+ghost use Rattle.code_typing.specs.Operators.{binary as seen};
 
 use c_syntax::expressions::ValueType;
-use c_syntax::tree::UnaryOperator;
+use c_syntax::tree::{BinaryOperator, UnaryOperator};
 use int_ranges::ctype::{CType, common_type};
 use method::program::{Comparison, Operator};
 
@@ -46,7 +47,7 @@ pub fn conversion(from: CType, to: CType) -> Option<CType>
 
 /// What an operator of the source is.
 #[derive(Clone, Copy, Debug, PartialEq, Eq)]
-pub enum Binary {
+pub enum OperatorKind {
     Computes(Operator),
     Compares(Comparison),
     IsAnd,
@@ -54,4 +55,38 @@ pub enum Binary {
     IsImplies,
     IsIff,
     IsMember,
+}
+
+/// What an operator of the source is.
+pub fn binary(operator: BinaryOperator) -> OperatorKind
+    ensures { seen result ≡ spec.binary operator }
+{
+    match operator {
+        BinaryOperator::Times => OperatorKind::Computes(Operator::Times),
+        BinaryOperator::Over => OperatorKind::Computes(Operator::Over),
+        BinaryOperator::Modulo => OperatorKind::Computes(Operator::Modulo),
+        BinaryOperator::Plus => OperatorKind::Computes(Operator::Plus),
+        BinaryOperator::Minus => OperatorKind::Computes(Operator::Minus),
+        BinaryOperator::Less => OperatorKind::Compares(Comparison::Less),
+        BinaryOperator::LessEqual => OperatorKind::Compares(Comparison::LessEqual),
+        BinaryOperator::Greater => OperatorKind::Compares(Comparison::Greater),
+        BinaryOperator::GreaterEqual => OperatorKind::Compares(Comparison::GreaterEqual),
+        BinaryOperator::In => OperatorKind::IsMember,
+        BinaryOperator::Equal => OperatorKind::Compares(Comparison::Equal),
+        BinaryOperator::NotEqual => OperatorKind::Compares(Comparison::NotEqual),
+        BinaryOperator::And => OperatorKind::IsAnd,
+        BinaryOperator::Or => OperatorKind::IsOr,
+        BinaryOperator::Implies => OperatorKind::IsImplies,
+        BinaryOperator::Equivalent => OperatorKind::IsIff,
+    }
+}
+
+/// The type that an operator gives operands of these types.
+pub fn result_type(operator: OperatorKind, left: CType, right: CType) -> CType
+    ensures { result ≡ spec.result_type (seen operator) left right }
+{
+    match operator {
+        OperatorKind::Computes(_) => common_type(left, right),
+        _ => CType::Int,
+    }
 }
