@@ -1,16 +1,23 @@
 -- From trees to programs.
-use Rattle.std.proofs.Common.{◌≡◌, ℕ, ◌<◌, ◌≤◌, nat_le, Bool, true, false, cond, List, [], ◌∷◌, length, Option, Some, None, Result, Err, refl, ap, sym, ◌∙◌, subst, arith}
+use Rattle.std.proofs.Common.{◌≡◌, ℕ, ◌<◌, ◌≤◌, nat_le, Bool, true, false, cond, List, [], ◌∷◌, length, map, Option, Some, None, Result, Err, refl, ap, sym, ◌∙◌, subst, arith}
 use Rattle.ebnf.specs.Tools.{le_true, true_le}
 use Rattle.c_syntax.specs.declared.token.Span.{Span}
+use Rattle.c_syntax.specs.declared.items.Item.{Item as HeldItem}
+use Rattle.c_syntax.specs.declared.items.Tree.{Tree}
+use Rattle.c_syntax.specs.Views.{item, items_of}
 use Rattle.c_syntax.specs.Items as i
 use Rattle.c_syntax.specs.Items.{Item, Param}
+use Rattle.c_types.specs.First.{IsWellTyped, first_broken}
+use Rattle.c_types.specs.FirstLaws.{first_is_first, none_broken}
+use Rattle.expr_rules.specs.declared.found.Broken.{Broken}
+use Rattle.expr_rules.specs.Views.{maybe_broken, rule}
 use Rattle.c_source.specs.Sources.{IsText, IsWithinLimits}
 use Rattle.c_source.proofs.Unique.{one_text}
 use Rattle.first_form.specs.Tree.{Prog, stms_count}
 use Rattle.tree_heights.specs.Parts.{all, parameter, parts}
 use Rattle.first_program.specs.Form.{program_of, parameter_count, few}
 use Rattle.first_program.specs.Reads.{IsFirstForm}
-use Rattle.vcc_cli.specs.Source.{IsUnbuilt}
+use Rattle.vcc_cli.specs.Source.{BreaksFirst, IsUnbuilt}
 
 few_of : (out : Option Prog) (p : Prog) → few out ≡ Some p → (out ≡ Some p) × (stms_count p.body ≤ 200)
 few_of None p e = absurd cc
@@ -24,9 +31,27 @@ few_is : (out : Option Prog) (p : Prog) → out ≡ Some p → stms_count p.body
 few_is None p e le = absurd cc
 few_is (Some q) p e le = let same : q ≡ p = cc in ap (λ (b : Bool). cond b (Some q) None) (true_le (stms_count q.body) 200 (subst (λ (r : Prog). stms_count r.body ≤ 200) (sym same) le)) ∙ e
 
+-- what is found of a tree's items, by another name
+found_of : (tree : Tree) (held : List HeldItem) (found : Option Broken) → held ≡ tree.items.items → maybe_broken found ≡ first_broken (map item held) tree.end → maybe_broken found ≡ first_broken (items_of tree) tree.end
+found_of tree held found same e = e ∙ ap (λ (xs : List HeldItem). first_broken (map item xs) tree.end) same
+
+-- a text whose first broken rule is found
+pub breaks_first : (bytes : List ℕ) (tree : Tree) (held : List HeldItem) (found : Option Broken) (b : Broken) (text : IsText bytes (items_of tree) tree.end) → IsWithinLimits text → held ≡ tree.items.items → found ≡ Some b → maybe_broken found ≡ first_broken (map item held) tree.end → BreaksFirst bytes b
+breaks_first bytes tree held found b text within same is e = record {
+  items = items_of tree;
+  end = tree.end;
+  text = text;
+  within = within;
+  first = first_is_first (items_of tree) tree.end (rule b.rule) b.span (sym (found_of tree held found same e) ∙ ap maybe_broken is);
+}
+
+-- items that break no rule
+pub breaks_none : (tree : Tree) (held : List HeldItem) (found : Option Broken) → held ≡ tree.items.items → found ≡ None → maybe_broken found ≡ first_broken (map item held) tree.end → IsWellTyped (items_of tree) tree.end
+breaks_none tree held found same is e = none_broken (items_of tree) tree.end (sym (found_of tree held found same e) ∙ ap maybe_broken is)
+
 -- a program that a text's items are is the text's
-pub form_of : (bytes : List ℕ) (items : List Item) (end : Span) (text : IsText bytes items end) (p : Prog) → IsWithinLimits text → length bytes ≤ 65536 → few (program_of items) ≡ Some p → IsFirstForm bytes p
-form_of bytes items end text p within short e = let found = few_of (program_of items) p e in record { reads = record { items = items; end = end; text = text; form = found.0 }; within = within; short = short; few = found.1 }
+pub form_of : (bytes : List ℕ) (items : List Item) (end : Span) (text : IsText bytes items end) (p : Prog) → IsWithinLimits text → IsWellTyped items end → length bytes ≤ 65536 → few (program_of items) ≡ Some p → IsFirstForm bytes p
+form_of bytes items end text p within typed short e = let found = few_of (program_of items) p e in record { reads = record { items = items; end = end; text = text; typed = typed; form = found.0 }; within = within; short = short; few = found.1 }
 
 -- what a text's items give, where it reads as a program
 pub form_gives : (bytes : List ℕ) (items : List Item) (end : Span) → IsText bytes items end → (p : Prog) → IsFirstForm bytes p → few (program_of items) ≡ Some p
@@ -39,12 +64,13 @@ pub only_form : (bytes : List ℕ) (items : List Item) (end : Span) → IsText b
 only_form bytes items end text p q e form = let other : few (program_of items) ≡ Some q = form_gives bytes items end text q form in let same : Some q ≡ Some p = sym other ∙ e in cc
 
 -- a text whose items are no program
-pub no_form : (bytes : List ℕ) (items : List Item) (end : Span) (text : IsText bytes items end) → IsWithinLimits text → few (program_of items) ≡ None → IsUnbuilt bytes
-no_form bytes items end text within e = record {
+pub no_form : (bytes : List ℕ) (items : List Item) (end : Span) (text : IsText bytes items end) → IsWithinLimits text → IsWellTyped items end → few (program_of items) ≡ None → IsUnbuilt bytes
+no_form bytes items end text within typed e = record {
   items = items;
   end = end;
   text = text;
   within = within;
+  typed = typed;
   other = λ p form. absurd (let other : few (program_of items) ≡ Some p = form_gives bytes items end text p form in let clash : Some p ≡ None = sym other ∙ e in cc clash);
 }
 
@@ -60,5 +86,5 @@ few_parameters (i.Function f ∷ []) = let n = counted f.parameters in omega (ar
 few_parameters (i.Function f ∷ x ∷ items) = omega arith
 
 -- a text that is too long
-pub long_form : (bytes : List ℕ) (items : List Item) (end : Span) (text : IsText bytes items end) → IsWithinLimits text → 65536 < length bytes → IsUnbuilt bytes
-long_form bytes items end text within long = record { items = items; end = end; text = text; within = within; other = λ p form. let short : length bytes ≤ 65536 = form.short in absurd (omega (arith, short, long)) }
+pub long_form : (bytes : List ℕ) (items : List Item) (end : Span) (text : IsText bytes items end) → IsWithinLimits text → IsWellTyped items end → 65536 < length bytes → IsUnbuilt bytes
+long_form bytes items end text within typed long = record { items = items; end = end; text = text; within = within; typed = typed; other = λ p form. let short : length bytes ≤ 65536 = form.short in absurd (omega (arith, short, long)) }

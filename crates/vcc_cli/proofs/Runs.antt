@@ -1,10 +1,15 @@
 -- From a run's answer to its meaning, and from acceptance to the answer.
 use Rattle.std.specs.Prelude.{codes}
 use Rattle.std.proofs.Common.{◌≡◌, ◌⊎◌, inl, inr, ℕ, suc, ◌+◌, ◌<◌, ◌≤◌, List, [], ◌∷◌, length, Option, Some, IsNone, Result, Ok, Err, refl, ap, sym, ◌∙◌, subst, arith}
+use Rattle.c_syntax.specs.declared.token.Span.{Span}
+use Rattle.c_syntax.specs.Items.{Item}
+use Rattle.c_types.specs.First.{Breaks}
+use Rattle.expr_rules.specs.declared.found.Broken.{Broken}
+use Rattle.expr_rules.specs.Views.{rule}
 use Rattle.c_source.specs.declared.fault.SourceFault.{SourceFault}
 use Rattle.c_source.specs.declared.fault.SourceFault.TheVariants as f
 use Rattle.c_source.specs.Sources.{IsFault}
-use Rattle.c_source.proofs.Unique.{not_both}
+use Rattle.c_source.proofs.Unique.{not_both, one_text}
 use Rattle.first_form.specs.Tree.{Prog}
 use Rattle.first_program.specs.Reads.{IsFirstForm}
 use Rattle.cert_format.specs.declared.certificate.Step.{Step}
@@ -18,11 +23,11 @@ use Rattle.vcc_cli.specs.declared.judge.Label.{Label}
 use Rattle.vcc_cli.specs.declared.judge.Verdict.{Verdict}
 use Rattle.vcc_cli.specs.declared.judge.Verdict.TheVariants.{Yes, No}
 use Rattle.vcc_cli.specs.declared.refusal.Refusal.{Refusal}
-use Rattle.vcc_cli.specs.declared.refusal.Refusal.TheVariants.{Usage, BadByte, BadNumber, OpenComment, Unexpected, UnknownForm, NotBuilt, Refused, Limit, Missing, ReadFault, OutOfMemory}
+use Rattle.vcc_cli.specs.declared.refusal.Refusal.TheVariants.{Usage, BadByte, BadNumber, OpenComment, Unexpected, UnknownForm, BreaksRule, NotBuilt, Refused, Limit, Missing, ReadFault, OutOfMemory}
 use Rattle.vcc_cli.specs.Command.{IsCheck}
 use Rattle.vcc_cli.specs.Accepts.{Accepts, AllFollow}
 use Rattle.vcc_cli.specs.Answer.{AreJudged, FirstNot, HoldsTooMuch, IsAccepted, IsAnswer, IsCertAnswer, IsCertificateOf, IsCheckAnswer, IsCheckOf, IsProgramOf, IsSafeAnswer, IsSafeSource, IsUnread, IsUnreadAnswer, SourceIsSafe}
-use Rattle.vcc_cli.specs.Source.{IsSourceRefusal}
+use Rattle.vcc_cli.specs.Source.{BreaksFirst, IsSourceRefusal}
 use Rattle.vcc_cli.specs.Faults.{IsReadFault}
 use Rattle.vcc_cli.specs.Lines.{IsReported, Written, status_of}
 use Rattle.vcc_cli.specs.Run.{IsRun, ReadCounts}
@@ -41,6 +46,7 @@ yes_has_zero (Err (BadNumber place)) e = absurd (omega arith)
 yes_has_zero (Err (OpenComment place)) e = absurd (omega arith)
 yes_has_zero (Err (Unexpected place)) e = absurd (omega arith)
 yes_has_zero (Err (UnknownForm place)) e = absurd (omega arith)
+yes_has_zero (Err (BreaksRule b)) e = absurd (omega arith)
 yes_has_zero (Err NotBuilt) e = absurd (omega arith)
 yes_has_zero (Err Refused) e = absurd (omega arith)
 yes_has_zero (Err (Limit limit)) e = absurd (omega arith)
@@ -139,6 +145,7 @@ read_faults_only m name limit bytes (BadNumber place) held within unread = absur
 read_faults_only m name limit bytes (OpenComment place) held within unread = absurd unread
 read_faults_only m name limit bytes (Unexpected place) held within unread = absurd unread
 read_faults_only m name limit bytes (UnknownForm place) held within unread = absurd unread
+read_faults_only m name limit bytes (BreaksRule b) held within unread = absurd unread
 read_faults_only m name limit bytes NotBuilt held within unread = absurd unread
 read_faults_only m name limit bytes Refused held within unread = absurd unread
 read_faults_only m name limit bytes (Limit l) held within unread =
@@ -177,6 +184,7 @@ judged_yes checks blocks (Err (BadNumber place)) follow judged = absurd judged
 judged_yes checks blocks (Err (OpenComment place)) follow judged = absurd judged
 judged_yes checks blocks (Err (Unexpected place)) follow judged = absurd judged
 judged_yes checks blocks (Err (UnknownForm place)) follow judged = absurd judged
+judged_yes checks blocks (Err (BreaksRule b)) follow judged = absurd judged
 judged_yes checks blocks (Err NotBuilt) follow judged = absurd judged
 judged_yes checks blocks (Err Refused) follow judged = absurd (judged (as_many checks blocks follow))
 judged_yes checks blocks (Err (Limit l)) follow judged = absurd judged
@@ -196,6 +204,13 @@ cert_yes m name checks cert accepted answer held within text follow (inr found) 
     let same : cert ≡ found.cert = one_value (m name) cert found.cert held found.held.0 in
     blocks_yes checks found.cert accepted answer (subst (λ (c : List ℕ). IsCertText c accepted) same text) follow found.judged
 
+-- a source of the form breaks no rule
+broken_form : (source : List ℕ) (b : Broken) (p : Prog) → IsFirstForm source p → BreaksFirst source b → ⊥
+broken_form source b p form x =
+    let same = one_text source x.items form.reads.items x.end form.reads.end x.text form.reads.text in
+    let there = subst (λ (xs : List Item). Breaks xs x.end (rule b.rule) b.span) same.0 x.first.is_broken in
+    form.reads.typed (rule b.rule) b.span (subst (λ (e : Span). Breaks form.reads.items e (rule b.rule) b.span) same.1 there)
+
 -- a source of the form is not refused
 not_refused : (source : List ℕ) (p : Prog) (refusal : Refusal) → IsFirstForm source p → IsSourceRefusal source refusal → ⊥
 not_refused source p refusal form refused = go refusal refused
@@ -210,6 +225,7 @@ not_refused source p refusal form refused = go refusal refused
     go (OpenComment q) x = none (f.OpenComment q) x
     go (Unexpected q) x = none (f.Unexpected q) x
     go (UnknownForm q) x = none (f.UnknownForm q) x
+    go (BreaksRule b) x = broken_form source b p form x
     go NotBuilt x = x.other p form
     go Refused x = x
     go (Limit SourceBytes) x = x

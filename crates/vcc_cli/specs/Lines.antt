@@ -1,12 +1,14 @@
 -- What is printed for an answer, and its status.
 use Rattle.std.specs.Prelude.{◌≡◌, ◌⊎◌, ℕ, ◌<◌, List, [], ◌∷◌, ◌++◌, Option, Result, Ok, Err, codes, decimal}
 use Rattle.c_syntax.specs.declared.token.Span.{Span}
+use Rattle.c_types.specs.Rules.{number}
+use Rattle.expr_rules.specs.Views.{rule}
 use Rattle.vcc_base.specs.Maps.{NowWritten, FrontWritten}
 use Rattle.vcc_base.specs.Limits.{number_of, name_of}
 use Rattle.vcc_cli.specs.declared.judge.Verdict.{Verdict}
 use Rattle.vcc_cli.specs.declared.judge.Verdict.TheVariants.{Yes, No}
 use Rattle.vcc_cli.specs.declared.refusal.Refusal.{Refusal}
-use Rattle.vcc_cli.specs.declared.refusal.Refusal.TheVariants.{Usage, BadByte, BadNumber, OpenComment, Unexpected, UnknownForm, NotBuilt, Refused, Limit, Missing, ReadFault, OutOfMemory}
+use Rattle.vcc_cli.specs.declared.refusal.Refusal.TheVariants.{Usage, BadByte, BadNumber, OpenComment, Unexpected, UnknownForm, BreaksRule, NotBuilt, Refused, Limit, Missing, ReadFault, OutOfMemory}
 
 -- a line of this text
 abbrev pub line : List ℕ → List ℕ
@@ -16,9 +18,9 @@ line text = text ++ 10 ∷ []
 abbrev pub place_text : Span → List ℕ
 place_text place = decimal place.line ++ (codes ":" ++ decimal place.column)
 
--- a fault of a source: its place, what it is a fault of, and its number
+-- a fault of a source: its place, what it is a fault of, and its number; or a typing rule that is broken there, by its number
 abbrev pub source_line : Span → List ℕ → ℕ → List ℕ
-source_line place stage number = codes "source " ++ (place_text place ++ (codes ": " ++ (stage ++ (codes " " ++ line (decimal number)))))
+source_line place stage n = codes "source " ++ (place_text place ++ (codes ": " ++ (stage ++ (codes " " ++ line (decimal n)))))
 
 -- the line of an answer
 abbrev pub line_of : Result Verdict Refusal → List ℕ
@@ -30,6 +32,7 @@ line_of (Err (BadNumber place)) = source_line place (codes "token") 2
 line_of (Err (OpenComment place)) = source_line place (codes "token") 3
 line_of (Err (Unexpected place)) = source_line place (codes "syntax") 1
 line_of (Err (UnknownForm place)) = source_line place (codes "syntax") 2
+line_of (Err (BreaksRule broken)) = source_line broken.span (codes "rule") (number (rule broken.rule))
 line_of (Err NotBuilt) = line (codes "source: not built")
 line_of (Err Refused) = line (codes "certificate: refused")
 line_of (Err (Limit limit)) = codes "limit: " ++ (name_of limit ++ (codes " " ++ line (decimal (number_of limit))))
@@ -47,6 +50,7 @@ status_of (Err (BadNumber place)) = 3
 status_of (Err (OpenComment place)) = 3
 status_of (Err (Unexpected place)) = 3
 status_of (Err (UnknownForm place)) = 3
+status_of (Err (BreaksRule broken)) = 3
 status_of (Err NotBuilt) = 3
 status_of (Err Refused) = 4
 status_of (Err (Limit limit)) = 5

@@ -2,23 +2,35 @@
 use Rattle.std.specs.Prelude.{ℕ, List}
 use Rattle.c_syntax.specs.declared.token.Span.{Span}
 use Rattle.c_syntax.specs.Items.{Item}
+use Rattle.c_types.specs.First.{IsFirstBroken, IsWellTyped}
+use Rattle.expr_rules.specs.declared.found.Broken.{Broken}
+use Rattle.expr_rules.specs.Views.{rule}
 use Rattle.c_source.specs.declared.fault.SourceFault.TheVariants as f
 use Rattle.c_source.specs.Sources.{IsText, IsWithinLimits, IsFault}
 use Rattle.first_form.specs.Tree.{Prog}
 use Rattle.first_program.specs.Reads.{IsFirstForm}
 use Rattle.vcc_base.specs.declared.limit.Limit.TheVariants.{Tokens, Depth}
 use Rattle.vcc_cli.specs.declared.refusal.Refusal.{Refusal}
-use Rattle.vcc_cli.specs.declared.refusal.Refusal.TheVariants.{BadByte, BadNumber, OpenComment, Unexpected, UnknownForm, NotBuilt, Limit, OutOfMemory}
+use Rattle.vcc_cli.specs.declared.refusal.Refusal.TheVariants.{BadByte, BadNumber, OpenComment, Unexpected, UnknownForm, BreaksRule, NotBuilt, Limit, OutOfMemory}
 
--- the bytes are items of the language, within the limits, and no program of the form that is judged so far
+-- the bytes are items of the language, within the limits, and this rule is the first that they break, at this place
+pub record BreaksFirst (source : List ℕ) (b : Broken) : Type 0 where
+  pub items : List Item
+  pub end : Span
+  pub text : IsText source items end
+  pub within : IsWithinLimits text
+  pub first : IsFirstBroken items end (rule b.rule) b.span
+
+-- the bytes are items of the language, within the limits, that break no typing rule, and no program of the form that is judged so far
 pub record IsUnbuilt (source : List ℕ) : Type 0 where
   pub items : List Item
   pub end : Span
   pub text : IsText source items end
   pub within : IsWithinLimits text
+  pub typed : IsWellTyped items end
   pub other : (p : Prog) → IsFirstForm source p → ⊥
 
--- The bytes have this first fault at this place; or they are of no form that is judged so far.
+-- The bytes have this first fault at this place; or the rule is the first that they break, there; or they are of no form that is judged so far.
 abbrev pub IsSourceRefusal : List ℕ → Refusal → Type 0
 IsSourceRefusal source (BadByte place) = IsFault source (f.BadByte place)
 IsSourceRefusal source (BadNumber place) = IsFault source (f.BadNumber place)
@@ -27,6 +39,7 @@ IsSourceRefusal source (Limit Tokens) = (place : Span) × IsFault source (f.TooM
 IsSourceRefusal source (Unexpected place) = IsFault source (f.Unexpected place)
 IsSourceRefusal source (UnknownForm place) = IsFault source (f.UnknownForm place)
 IsSourceRefusal source (Limit Depth) = (place : Span) × IsFault source (f.TooDeep place)
+IsSourceRefusal source (BreaksRule b) = BreaksFirst source b
 IsSourceRefusal source NotBuilt = IsUnbuilt source
 IsSourceRefusal source _ = ⊥
 

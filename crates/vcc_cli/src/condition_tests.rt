@@ -140,8 +140,8 @@ const ROWS: &[(&str, &str)] = &[
     ),
     ("void main(int if) {}", "unexpected"),
     ("void main(int NULL) {}", "unexpected"),
-    ("void main(int x, int x) {}", "not built"),
-    ("void main(int x) { _(assert y == x) }", "not built"),
+    ("void main(int x, int x) {}", "broken rule"),
+    ("void main(int x) { _(assert y == x) }", "broken rule"),
     ("void main() { _(assert 01 == 1) }", "bad number"),
     ("void main()\t{}", ""),
     ("void main() { // nothing\n}", ""),
@@ -189,6 +189,7 @@ fn refused(refusal: Refusal<'_>) -> &'static str {
         Refusal::NotBuilt => "not built",
         Refusal::BadNumber(_) => "bad number",
         Refusal::Unexpected(_) => "unexpected",
+        Refusal::BreaksRule(_) => "broken rule",
         _ => "other",
     }
 }

@@ -17,3 +17,5 @@ mod condition_tests;
 mod source_tests;
 #[cfg(test)]
 mod tests;
+#[cfg(test)]
+mod typing_tests;

@@ -1,7 +1,10 @@
 //! The program of a source.
 
-ghost use Rattle.std.specs.Prelude.{◌≡◌, ◌≤◌, ℕ, List, length, IfOk, IfErr};
-ghost use Rattle.c_source.specs.Sources.{IsFaultOrMemory};
+ghost use Rattle.std.specs.Prelude.{◌≡◌, ◌≤◌, ℕ, ◌<◌, List, length, IfOk, IfErr, OnOk};
+ghost use Rattle.c_syntax.specs.Views.{items_of};
+ghost use Rattle.c_types.specs.First.{IsWellTyped};
+ghost use Rattle.c_source.specs.Sources.{IsFaultOrMemory, IsText, IsWithinLimits};
+ghost use Rattle.tree_heights.specs.Parts.{parts};
 ghost use Rattle.first_form.specs.Tree.{Prog, program as read_as};
 ghost use Rattle.first_program.specs.Reads.{IsFirstForm};
 ghost use Rattle.vcc_cli.specs.Source.{IsSourceRefusalOrMemory};
@@ -9,9 +12,11 @@ ghost use Rattle.vcc_cli.specs.Source.{IsSourceRefusalOrMemory};
 use crate::refusal::Refusal;
 use c_reader::read_source;
 use c_source::fault::SourceFault;
+use c_syntax::items::Tree;
 use first_form::tree::Program;
 use first_program::fault::FormFault;
 use first_program::program_of;
+use program_rules::program::first_broken;
 use std::alloc::Global;
 use vcc_base::limit::Limit;
 
@@ -34,6 +39,36 @@ fn refusal_of<'a>(fault: SourceFault) -> Refusal<'a>
     }
 }
 
+/// Whether the tree breaks no typing rule, or the refusal by the first that it breaks.
+fn well_typed<'a>(alloc: Global, tree: &Tree) -> Result<(), Refusal<'a>>
+    ensures typed { OnOk result (IsWellTyped (items_of tree.now) tree.now.end) }
+    ensures refused { (bytes : List ℕ) (text : IsText bytes (items_of tree.now) tree.now.end) → IsWithinLimits text → IfErr result (IsSourceRefusalOrMemory bytes) }
+{
+    match first_broken(alloc, &tree.items, tree.end) {
+        Ok(None) => Ok(()),
+        Ok(Some(broken)) => Err(Refusal::BreaksRule(broken)),
+        Err(_) => Err(Refusal::OutOfMemory),
+    }
+}
+
+/// The tree of the bytes, where they have one that breaks no typing rule.
+fn typed_tree<'a>(alloc: Global, bytes: &[u8]) -> Result<Tree, Refusal<'a>>
+    requires { length bytes.now ≤ 1048576 }
+    ensures reads { IfOk result (λ t. (text : IsText bytes.now (items_of t) t.end) × IsWithinLimits text) }
+    ensures few { IfOk result (λ t. parts (items_of t) < 1073741824) }
+    ensures typed { IfOk result (λ t. IsWellTyped (items_of t) t.end) }
+    ensures refused { IfErr result (IsSourceRefusalOrMemory bytes.now) }
+{
+    let tree = match read_source(alloc, bytes) {
+        Ok(tree) => tree,
+        Err(fault) => return Err(refusal_of(fault)),
+    };
+    match well_typed(alloc, &tree) {
+        Ok(()) => Ok(tree),
+        Err(refusal) => Err(refusal),
+    }
+}
+
 /// The program that the bytes read as, where they are of the form that is built so far.
 pub fn read_program<'a>(alloc: Global, bytes: &[u8]) -> Result<Program, Refusal<'a>>
     requires { length bytes.now ≤ 1048576 }
@@ -41,9 +76,9 @@ pub fn read_program<'a>(alloc: Global, bytes: &[u8]) -> Result<Program, Refusal<
     ensures only { IfOk result (λ p. (q : Prog) → IsFirstForm bytes.now q → q ≡ read_as p) }
     ensures refused { IfErr result (IsSourceRefusalOrMemory bytes.now) }
 {
-    let tree = match read_source(alloc, bytes) {
+    let tree = match typed_tree(alloc, bytes) {
         Ok(tree) => tree,
-        Err(fault) => return Err(refusal_of(fault)),
+        Err(refusal) => return Err(refusal),
     };
     if bytes.len() > MOST_BYTES {
         return Err(Refusal::NotBuilt);

@@ -1,6 +1,7 @@
 //! Why a command gives no verdict.
 
 use c_syntax::token::Span;
+use expr_rules::found::Broken;
 use vcc_base::limit::Limit;
 
 /// Why a command gives no verdict.
@@ -18,6 +19,8 @@ pub enum Refusal<'a> {
     Unexpected(Span),
     /// A word behind `_(` that is a form nowhere.
     UnknownForm(Span),
+    /// The first typing rule that the source breaks.
+    BreaksRule(Broken),
     /// The source isn't of the form that is built so far.
     NotBuilt,
     /// The certificate isn't well formed, or has another number of blocks than there are conditions.

@@ -1,6 +1,8 @@
 //! What the program prints, and its status.
 
 ghost use Rattle.std.specs.Prelude.{◌≡◌, ◌<◌, ◌≤◌, ◌++◌, OnOk, OnErr, IsErrOf, codes, decimal};
+ghost use Rattle.c_types.specs.Rules.{number as number_of_rule};
+ghost use Rattle.expr_rules.specs.Views.{rule};
 ghost use Rattle.vcc_base.specs.Maps.{NowWritten, FrontWritten};
 ghost use Rattle.vcc_base.specs.Limits.{number_of, name_of};
 ghost use Rattle.vcc_cli.specs.Lines.{IsReported, line, line_of, place_text, source_line, status_of};
@@ -8,6 +10,7 @@ ghost use Rattle.vcc_cli.specs.Lines.{IsReported, line, line_of, place_text, sou
 use crate::judge::{Label, Verdict};
 use crate::refusal::Refusal;
 use c_syntax::token::Span;
+use expr_rules::found::Broken;
 use vcc_base::limit::Limit;
 use vcc_base::sink::{Sink, SinkFault};
 use vcc_base::whole::{put_all, put_number};
@@ -95,6 +98,17 @@ fn put_fault<O: Sink>(out: &mut O, place: Span, stage: &[u8], number: u64) -> Re
     Ok(())
 }
 
+/// The line of a broken typing rule: its place and its number.
+fn put_broken<O: Sink>(out: &mut O, broken: Broken) -> Result<(), SinkFault>
+    ensures ok { OnOk result (NowWritten (O.written out.old) (O.written out.new) (source_line broken.span (codes "rule") (number_of_rule (rule broken.rule)))) }
+    ensures err { OnErr result (FrontWritten (O.written out.old) (O.written out.new) (source_line broken.span (codes "rule") (number_of_rule (rule broken.rule)))) }
+    ensures failed { IsErrOf result SinkFault.Failed → O.faults out.old < O.faults out.new }
+    ensures never_falls { O.faults out.old ≤ O.faults out.new }
+{
+    let number = broken.rule.number();
+    put_fault(out, broken.span, b"rule", u64::from(number))
+}
+
 /// Prints the line of an answer.
 fn put_answer<O: Sink>(out: &mut O, answer: Result<Verdict, Refusal<'_>>) -> Result<(), SinkFault>
     ensures ok { OnOk result (NowWritten (O.written out.old) (O.written out.new) (line_of answer.entry)) }
@@ -110,6 +124,7 @@ fn put_answer<O: Sink>(out: &mut O, answer: Result<Verdict, Refusal<'_>>) -> Res
         Err(Refusal::OpenComment(place)) => put_fault(out, place, b"token", 3),
         Err(Refusal::Unexpected(place)) => put_fault(out, place, b"syntax", 1),
         Err(Refusal::UnknownForm(place)) => put_fault(out, place, b"syntax", 2),
+        Err(Refusal::BreaksRule(broken)) => put_broken(out, broken),
         Err(Refusal::NotBuilt) => put_all(out, b"source: not built\n"),
         Err(Refusal::Refused) => put_all(out, b"certificate: refused\n"),
         Err(Refusal::Limit(limit)) => put_limit(out, limit),
@@ -132,6 +147,7 @@ fn status(answer: Result<Verdict, Refusal<'_>>) -> u8
         Err(Refusal::OpenComment(_)) => 3,
         Err(Refusal::Unexpected(_)) => 3,
         Err(Refusal::UnknownForm(_)) => 3,
+        Err(Refusal::BreaksRule(_)) => 3,
         Err(Refusal::NotBuilt) => 3,
         Err(Refusal::Refused) => 4,
         Err(Refusal::Limit(_)) => 5,

@@ -1,5 +1,6 @@
 //! Whole sources, with the lines that `check` prints for them: each row of the grammar once as it is, and broken where it can
-//! break. The expected places were marked by hand, from the grammar and the notes of docs/LANGUAGE.md.
+//! break. The expected places were marked by hand, from the grammar and the notes of docs/LANGUAGE.md; what reads has the first
+//! typing rule that it breaks, from docs/TYPING.md.
 
 use crate::vcc_main;
 use std::alloc::{AllocError, Global};
@@ -9,16 +10,16 @@ use vcc_base::memory::{MemSink, MemStore};
 
 /// Structs: attributes, members, types.
 const STRUCTS: &[(&str, &str)] = &[
-    ("", "source: not built"),
-    ("struct A { int x; };", "source: not built"),
-    ("_(claimable) struct A { int x; };", "source: not built"),
+    ("", "source 1:1: rule 24"),
+    ("struct A { int x; };", "source 1:21: rule 24"),
+    ("_(claimable) struct A { int x; };", "source 1:34: rule 24"),
     (
         "_(claimable, volatile_owns) struct A { };",
-        "source: not built",
+        "source 1:36: rule 23",
     ),
     (
         "_(dynamic_owns) _(claimable) struct A { volatile int x; };",
-        "source: not built",
+        "source 1:59: rule 24",
     ),
     ("_(claimable,) struct A { };", "source 1:13: syntax 1"),
     (
@@ -41,15 +42,15 @@ const STRUCTS: &[(&str, &str)] = &[
     ("struct A { int x, y; };", "source 1:17: syntax 1"),
     (
         "struct A { struct A *next; unsigned n; unsigned int k; long long l; unsigned long long m; long long int o; unsigned long long int q; };",
-        "source: not built",
+        "source 1:136: rule 24",
     ),
     ("struct A { long int x; };", "source 1:17: syntax 1"),
     ("struct A { struct B x; };", "source 1:21: syntax 1"),
-    ("struct A { _(invariant \\true) };", "source: not built"),
+    ("struct A { _(invariant \\true) };", "source 1:8: rule 23"),
     ("struct A { _(invariant ) };", "source 1:24: syntax 1"),
     (
         "struct A { _(ghost \\object o;) _(ghost volatile \\claim c) };",
-        "source: not built",
+        "source 1:61: rule 24",
     ),
     ("struct A { _(ghost int x;;) };", "source 1:26: syntax 1"),
     ("struct A { _(wrap x) };", "source 1:14: syntax 1"),
@@ -59,13 +60,13 @@ const STRUCTS: &[(&str, &str)] = &[
 
 /// Functions: results, parameters, contracts.
 const FUNCTIONS: &[(&str, &str)] = &[
-    ("void f() {}", "source: not built"),
-    ("void f(void) {}", "source: not built"),
-    ("int f(int a, struct A *b) {}", "source: not built"),
-    ("struct A *f() {}", "source: not built"),
+    ("void f() {}", "source 1:12: rule 24"),
+    ("void f(void) {}", "source 1:16: rule 24"),
+    ("int f(int a, struct A *b) {}", "source 1:21: rule 1"),
+    ("struct A *f() {}", "source 1:8: rule 1"),
     (
         "unsigned long long f(_(ghost \\claim c) _(ghost \\object o)) {}",
-        "source: not built",
+        "source 1:61: rule 21",
     ),
     ("void f(int a,) {}", "source 1:14: syntax 1"),
     ("void f(void, int a) {}", "source 1:12: syntax 1"),
@@ -82,7 +83,7 @@ const FUNCTIONS: &[(&str, &str)] = &[
     ("void f(_(ghost int c;)) {}", "source 1:21: syntax 1"),
     (
         "void f() _(requires 1) _(ensures \\result == 1) _(maintains \\true) _(writes a, \\span(b), \\extent(c)) {}",
-        "source: not built",
+        "source 1:34: rule 18",
     ),
     ("void f() _(writes ) {}", "source 1:19: syntax 1"),
     ("void f() _(writes a,) {}", "source 1:21: syntax 1"),
@@ -100,18 +101,18 @@ const FUNCTIONS: &[(&str, &str)] = &[
 
 /// Blocks, declarations and allocations.
 const DECLARATIONS: &[(&str, &str)] = &[
-    ("void f() { { ; } ; }", "source: not built"),
+    ("void f() { { ; } ; }", "source 1:21: rule 24"),
     (
         "void f() { int x; int y = 1; struct A *p = NULL; unsigned z = g(); }",
-        "source: not built",
+        "source 1:37: rule 1",
     ),
     (
         "void f() { int x = g(1, 2 _(ghost c)); }",
-        "source: not built",
+        "source 1:20: rule 1",
     ),
     (
         "void f() { struct A *p = malloc(sizeof(struct A)); struct A *q = (struct A *) malloc(sizeof(struct A)); }",
-        "source: not built",
+        "source 1:19: rule 1",
     ),
     ("void f() { int = 1; }", "source 1:16: syntax 1"),
     ("void f() { int x = ; }", "source 1:20: syntax 1"),
@@ -146,7 +147,7 @@ const DECLARATIONS: &[(&str, &str)] = &[
     ("void f() { int if; }", "source 1:16: syntax 1"),
     ("void f() { int NULL; }", "source 1:16: syntax 1"),
     ("void f() { int assert; }", "source 1:16: syntax 1"),
-    ("void f() { int goto = 1; }", "source: not built"),
+    ("void f() { int goto = 1; }", "source 1:27: rule 24"),
     ("void f() { int 1x; }", "source 1:16: token 2"),
 ];
 
@@ -154,16 +155,16 @@ const DECLARATIONS: &[(&str, &str)] = &[
 const ASSIGNMENTS: &[(&str, &str)] = &[
     (
         "void f() { x = 1; p->f = 1; p->f->g += 2; (p)->f -= 1; x++; x--; p->f++; }",
-        "source: not built",
+        "source 1:12: rule 1",
     ),
-    ("void f() { NULL->f = 1; 5->f = 1; }", "source: not built"),
+    ("void f() { NULL->f = 1; 5->f = 1; }", "source 1:16: rule 6"),
     (
         "void f() { x = InterlockedCompareExchange(&p->f, 1, 0) == 0; x = InterlockedIncrement(&p->f); x = InterlockedDecrement(&(p)->g->f); x = InterlockedExchange(&p->f, 1) != y; }",
-        "source: not built",
+        "source 1:12: rule 1",
     ),
     (
         "void f() { x = InterlockedExchange(&p->f, 1) == a && b; }",
-        "source: not built",
+        "source 1:12: rule 1",
     ),
     ("void f() { 5; }", "source 1:13: syntax 1"),
     ("void f() { 5 + 1; }", "source 1:14: syntax 1"),
@@ -207,15 +208,15 @@ const ASSIGNMENTS: &[(&str, &str)] = &[
 const CALLS: &[(&str, &str)] = &[
     (
         "void f() { f(); f(1, x); f(_(ghost c)); f(1 _(ghost c) _(ghost d)); x = f(); p->f = g(1); }",
-        "source: not built",
+        "source 1:17: rule 5",
     ),
     (
         "void f() { vcc_spawn(f); vcc_spawn(f, 1, x _(ghost c)); vcc_spawn(f,); vcc_spawn(f, _(ghost c)); }",
-        "source: not built",
+        "source 1:36: rule 5",
     ),
     (
         "void f() { free(p); free(p->q); return; return 1; }",
-        "source: not built",
+        "source 1:17: rule 1",
     ),
     ("void f() { f(1,); }", "source 1:16: syntax 1"),
     ("void f() { f(, 1); }", "source 1:14: syntax 1"),
@@ -244,23 +245,23 @@ const CALLS: &[(&str, &str)] = &[
 
 /// Branches and loops.
 const BRANCHES: &[(&str, &str)] = &[
-    ("void f() { if (1) ; else ; }", "source: not built"),
-    ("void f() { if (a) if (b) ; else ; }", "source: not built"),
+    ("void f() { if (1) ; else ; }", "source 1:29: rule 24"),
+    ("void f() { if (a) if (b) ; else ; }", "source 1:16: rule 1"),
     (
         "void f() { if (a) { if (b) ; } else if (c) ; else { } }",
-        "source: not built",
+        "source 1:16: rule 1",
     ),
     (
         "void f() { while (1) ; while (1) _(invariant 1) _(invariant a ==> b) { } }",
-        "source: not built",
+        "source 1:61: rule 1",
     ),
     (
         "void f() { do ; while (1); do _(invariant 1) { } while (x); }",
-        "source: not built",
+        "source 1:57: rule 1",
     ),
     (
         "void f() { for (;1;) ; for (i = 0; i < 1; i++) _(invariant 1) x = 1; for (x = f(); 1; p->f += 2) { } }",
-        "source: not built",
+        "source 1:29: rule 1",
     ),
     ("void f() { if 1 ; }", "source 1:15: syntax 1"),
     ("void f() { if () ; }", "source 1:16: syntax 1"),
@@ -301,11 +302,11 @@ const BRANCHES: &[(&str, &str)] = &[
 const ANNOTATIONS: &[(&str, &str)] = &[
     (
         "void f() { _(assert 1) _(ghost x = 1) _(ghost x = 1;) _(wrap p) _(unwrap p) _(unwrapping p) { } _(atomic p, q) { x = 1; } }",
-        "source: not built",
+        "source 1:32: rule 1",
     ),
     (
         "void f() { if (1) _(assert 1) else _(wrap p) }",
-        "source: not built",
+        "source 1:43: rule 1",
     ),
     ("void f() { _(assert ) }", "source 1:21: syntax 1"),
     ("void f() { _(requires 1) }", "source 1:14: syntax 1"),
@@ -336,35 +337,35 @@ const ANNOTATIONS: &[(&str, &str)] = &[
 const GHOSTS: &[(&str, &str)] = &[
     (
         "void f() { _(ghost { a = 1; b = 2; }) _(ghost { }) _(ghost { x = 1 y = 2 }) }",
-        "source: not built",
+        "source 1:22: rule 1",
     ),
     (
         "void f() { _(ghost \\claim c) _(ghost \\object o = x;) _(ghost struct A *p = NULL) }",
-        "source: not built",
+        "source 1:50: rule 1",
     ),
     (
         "void f() { _(ghost c = \\make_claim({p, q}, a ==> b)) _(ghost \\destroy_claim(c, {p})) }",
-        "source: not built",
+        "source 1:20: rule 1",
     ),
     (
         "void f() { _(ghost p->\\owns = {}) _(ghost p->\\owns += q) _(ghost p->q->\\owns -= {q, r}) }",
-        "source: not built",
+        "source 1:20: rule 1",
     ),
     (
         "void f() { _(ghost _(wrap p)) _(ghost _(unwrap p);) }",
-        "source: not built",
+        "source 1:27: rule 1",
     ),
     (
         "void f() { _(ghost if (a) x = 1; else y = 2;) }",
-        "source: not built",
+        "source 1:24: rule 1",
     ),
     (
         "void f() { _(ghost if (a) if (b) x = 1;;;) }",
-        "source: not built",
+        "source 1:24: rule 1",
     ),
     (
         "void f() { _(ghost if (a) { } else { }) }",
-        "source: not built",
+        "source 1:24: rule 1",
     ),
     (
         "void f() { _(ghost if (a) if (b) x = 1;;;;) }",
@@ -419,17 +420,20 @@ const GHOSTS: &[(&str, &str)] = &[
 
 /// Expressions of code.
 const EXPRESSIONS: &[(&str, &str)] = &[
-    ("void f() { x = a ? b : c ? d : e; }", "source: not built"),
+    ("void f() { x = a ? b : c ? d : e; }", "source 1:12: rule 1"),
     (
         "void f() { x = -a * !b / -(c) % 2 - 1 <= 3 == 4 != 5 && 6 || 7; }",
-        "source: not built",
+        "source 1:12: rule 1",
     ),
     (
         "void f() { x = 0x1F + 1u + 2ll + 3ULL + 4llu; }",
-        "source: not built",
+        "source 1:12: rule 1",
     ),
-    ("void f() { x = p->a->b; }", "source: not built"),
-    ("void f() { x = a < b < c > d >= e; }", "source: not built"),
+    ("void f() { x = p->a->b; }", "source 1:12: rule 1"),
+    (
+        "void f() { x = a < b < c > d >= e; }",
+        "source 1:12: rule 1",
+    ),
     ("void f() { x = a ? b; }", "source 1:21: syntax 1"),
     ("void f() { x = a ? : b; }", "source 1:20: syntax 1"),
     ("void f() { x = a ==> b; }", "source 1:18: syntax 1"),
@@ -450,59 +454,65 @@ const EXPRESSIONS: &[(&str, &str)] = &[
 
 /// Expressions of annotations.
 const SPECS: &[(&str, &str)] = &[
-    ("void f() { _(assert a ==> b ==> c) }", "source: not built"),
+    (
+        "void f() { _(assert a ==> b ==> c) }",
+        "source 1:21: rule 1",
+    ),
     (
         "void f() { _(assert a <==> b <==> c) }",
-        "source: not built",
+        "source 1:21: rule 1",
     ),
-    ("void f() { _(assert (a ==> b) && c) }", "source: not built"),
+    (
+        "void f() { _(assert (a ==> b) && c) }",
+        "source 1:22: rule 1",
+    ),
     (
         "void f() { _(assert \\forall int i; i < 1 ==> \\exists \\object o; o == p) }",
-        "source: not built",
+        "source 1:21: rule 16",
     ),
     (
         "void f() { _(assert p \\in q->\\owns) }",
-        "source: not built",
+        "source 1:21: rule 1",
     ),
     (
         "void f() { _(assert p \\in q->r->\\owns == 1) }",
-        "source: not built",
+        "source 1:21: rule 1",
     ),
     (
         "void f() { _(assert a == p \\in \\this->\\owns) }",
-        "source: not built",
+        "source 1:21: rule 1",
     ),
     (
         "void f() { _(assert \\old(a ==> b) == \\unchanged(c)) }",
-        "source: not built",
+        "source 1:26: rule 1",
     ),
     (
         "void f() { _(assert \\mine(a, b) && \\wrapped(p) && \\wrapped0(p) && \\mutable(p) && \\fresh(p)) }",
-        "source: not built",
+        "source 1:21: rule 19",
     ),
     (
         "void f() { _(assert \\claims_object(c, p) && \\claims(c, a ==> b)) }",
-        "source: not built",
+        "source 1:36: rule 1",
     ),
     (
         "void f() { _(assert p->\\closed && p->\\owner == \\me && p->\\claim_count == 0) }",
-        "source: not built",
+        "source 1:21: rule 1",
     ),
     (
         "void f() { _(assert \\this == \\result || \\false || !\\true) }",
-        "source: not built",
+        "source 1:21: rule 19",
     ),
     (
         "void f() { _(assert \\wrapped((a ==> b)) && \\wrapped(\\result)) }",
-        "source: not built",
+        "source 1:31: rule 1",
     ),
     (
         "void f() { _(assert \\forall struct A *p; \\forall \\claim c; p == q <==> c->\\closed) }",
-        "source: not built",
+        "source 1:21: rule 16",
     ),
     (
         "void f() { _(assert a ? \\forall int i; 1 : 2) }",
-        "source: not built",
+        "source 1:21: rule 1",
     ),
     (
         "void f() { _(assert \\wrapped(a ==> b)) }",
@@ -562,7 +572,7 @@ const SPECS: &[(&str, &str)] = &[
 const TOKENS: &[(&str, &str)] = &[
     (
         "#include <vcc.h>\nvoid f() { /* x */ // y\n }",
-        "source: not built",
+        "source 3:3: rule 24",
     ),
     ("#include <x.h>\nvoid f() {}", "source 1:1: token 1"),
     ("void f() { /* x", "source 1:12: token 3"),
@@ -587,38 +597,77 @@ const TOKENS: &[(&str, &str)] = &[
 /// A source of repeated pieces: a front, so many of one piece, a middle, as many of another, and an end.
 type Repeated<'a> = (&'a str, &'a str, &'a str, &'a str, &'a str);
 
-/// Sources that reach the greatest height with this many pieces, and pass it with one more.
+/// Sources that reach the greatest height with this many pieces, and pass it with one more. They break no typing rule.
 const DEEP: &[(Repeated<'static>, usize)] = &[
     (("void main(int x) { x = ", "(", "0", ")", "; }"), 196),
     (("void main(int x) { x = ", "!", "x", "", "; }"), 196),
     (("void main(int x) { x = ", "- ", "x", "", "; }"), 196),
     (("void main(int x) { x = x", " + x", "", "", "; }"), 196),
     (("void main(int x) { x = ", "x ? x : ", "x", "", "; }"), 196),
-    (("void main(int x) { x = x", "->f", "", "", "; }"), 196),
+    (
+        (
+            "struct A { struct A *f; }; void main(struct A *x) { x = x",
+            "->f",
+            "",
+            "",
+            "; }",
+        ),
+        196,
+    ),
     (("void main() { ", "{", "", "}", " }"), 198),
     (("void main() { ", "if (1) ", ";", "", " }"), 197),
     (("void main() { ", "if (1) ; else ", ";", "", " }"), 197),
     (("void main() { ", "while (1) ", ";", "", " }"), 197),
     (("void main() { ", "do ", ";", " while (1);", " }"), 197),
-    (("void main() { _(assert ", "\\old(", "x", ")", ") }"), 196),
-    (("void main() { _(assert x", " ==> x", "", "", ") }"), 196),
-    (("void main() { _(assert x", " <==> x", "", "", ") }"), 196),
     (
         (
-            "void main() { _(assert ",
-            "\\forall int i; ",
+            "void main(int x) { _(assert ",
+            "\\unchanged(",
             "x",
-            "",
+            ")",
             ") }",
         ),
         196,
     ),
     (
-        ("void main() { _(ghost ", "if (x) ", "x = 1", "", ") }"),
+        ("void main(int x) { _(assert x", " ==> x", "", "", ") }"),
+        196,
+    ),
+    (
+        ("void main(int x) { _(assert x", " <==> x", "", "", ") }"),
+        196,
+    ),
+    (
+        (
+            "struct A { int v; }; void main(struct A *p) { _(assert ",
+            "\\forall \\object o; o \\in p->\\owns ==> ",
+            "1",
+            "",
+            ") }",
+        ),
+        97,
+    ),
+    (
+        (
+            "void main(_(ghost int x)) { _(ghost ",
+            "if (x) ",
+            "x = 1",
+            "",
+            ") }",
+        ),
         195,
     ),
-    (("struct A { _(invariant ", "(", "x", ")", ") };"), 197),
-    (("void main() _(requires ", "(", "x", ")", ") {}"), 197),
+    (
+        (
+            "struct A { int x; _(invariant ",
+            "(",
+            "x",
+            ")",
+            ") }; void main() {}",
+        ),
+        197,
+    ),
+    (("void main(int x) _(requires ", "(", "x", ")", ") {}"), 197),
 ];
 
 /// The lock with its two threads.
@@ -692,7 +741,7 @@ void main()
 ";
 
 /// The line and the status of a check of this source, with a certificate of no conditions.
-fn checked(alloc: Global, source: &str) -> Result<(String, u8), Fail> {
+pub fn checked(alloc: Global, source: &str) -> Result<(String, u8), Fail> {
     let mut words = Vec::new(alloc);
     for word in ["check", "s.c", "C"] {
         words.push(String::from_str(alloc, word)?)?;
@@ -728,20 +777,21 @@ fn longest(
     Ok(source)
 }
 
-/// A source of the greatest length reads in good time: one long flat function, and the deepest brackets again and again.
+/// A source of the greatest length reads and types in good time: one long flat function, and the deepest brackets again and
+/// again.
 #[test]
 fn longest_sources(rt: HostRuntime) -> Result<(), Fail> {
     let alloc = rt.alloc();
     let flat = longest(
         alloc,
-        "void f() {\n",
+        "void main(int abcdefgh) {\n",
         "abcdefgh = 1234567;\n",
         52_427,
         "}\n",
     )?;
     let brackets = ("x = ", "(     ", "0", ")     ", ";\n");
     let deepest = repeated(alloc, &brackets, 196)?;
-    let deep = longest(alloc, "void f() {\n", deepest.as_str(), 444, "}\n")?;
+    let deep = longest(alloc, "void main(int x) {\n", deepest.as_str(), 444, "}\n")?;
     for source in [flat, deep] {
         assert_eq!(rt; source.len(), MOST_BYTES);
         let (text, status) = checked(alloc, source.as_str())?;
@@ -778,7 +828,7 @@ fn repeated(alloc: Global, pieces: &Repeated<'_>, count: usize) -> Result<String
 }
 
 #[test]
-fn the_lock_reads(rt: HostRuntime) -> Result<(), Fail> {
+fn the_lock_types(rt: HostRuntime) -> Result<(), Fail> {
     let (text, status) = checked(rt.alloc(), LOCK)?;
     assert_eq!(rt; text.as_str(), "source: not built\n");
     assert_eq!(rt; status, 3);

@@ -230,12 +230,12 @@ fn narrow_sink(rt: HostRuntime) -> Result<(), Fail> {
     Ok(())
 }
 
-/// A source of the greatest length that is allowed isn't of the form, and one of a byte more is refused by its length.
+/// A source of the greatest length that is allowed is read, and one of a byte more is refused by its length.
 #[test]
 fn long_sources(rt: HostRuntime) -> Result<(), Fail> {
     let alloc = rt.alloc();
     for (count, line, status) in [
-        (1_048_576, "source: not built\n", 3),
+        (1_048_576, "source 1:1048577: rule 24\n", 3),
         (1_048_577, "limit: SourceBytes 1048576\n", 5),
     ] {
         let mut source = String::new(alloc);
