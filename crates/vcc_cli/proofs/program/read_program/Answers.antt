@@ -1,4 +1,4 @@
-use Rattle.std.proofs.Common.{Err, Some, arith, subst}
+use Rattle.std.proofs.Common.{Err, arith, subst}
 use Rattle.c_syntax.specs.Views.{items_of}
 use Rattle.first_form.specs.Tree.{program as read_as}
 use Rattle.first_program.specs.declared.fault.FormFault.{FormFault}
