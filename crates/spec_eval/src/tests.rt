@@ -9,6 +9,8 @@ use int_ranges::exact::Wide;
 use object_types::references::Ref;
 use object_types::shapes::Entry;
 use object_types::values::{Value, Values};
+use std::alloc::Global;
+use std::process::Abort;
 use std::test::Fail;
 use world::{A, B, World};
 
@@ -28,10 +30,24 @@ fn wide(a: i128, b: i128) -> Result<Value, EvalFault> {
     Err(EvalFault::Wide(Wide { a, b }))
 }
 
+/// Each text has its value, or its fault.
+fn hold(
+    rt: &impl Abort,
+    alloc: Global,
+    rows: &[(&str, Result<Value, EvalFault>)],
+) -> Result<(), Fail> {
+    let world = World::new(alloc)?;
+    for (text, wanted) in rows {
+        let e = notation::read(alloc, *text)?;
+        let found = world.eval(&e);
+        assert_eq!(rt; &found, wanted, "{text}");
+    }
+    Ok(())
+}
+
 #[test]
 fn words_and_numbers(rt: HostRuntime) -> Result<(), Fail> {
-    let world = World::new(rt.alloc())?;
-    for (text, wanted) in [
+    let rows = [
         ("7", int(7)),
         ("-170141183460469231731687303715884105728", int(LOW)),
         ("true", int(1)),
@@ -48,17 +64,13 @@ fn words_and_numbers(rt: HostRuntime) -> Result<(), Fail> {
         ("! 5", int(0)),
         ("! null", int(1)),
         ("! a", int(0)),
-    ] {
-        let e = notation::read(rt.alloc(), text)?;
-        assert_eq!(rt; world.eval(&e), wanted, "{text}");
-    }
-    Ok(())
+    ];
+    hold(&rt, rt.alloc(), &rows)
 }
 
 #[test]
 fn arithmetic(rt: HostRuntime) -> Result<(), Fail> {
-    let world = World::new(rt.alloc())?;
-    for (text, wanted) in [
+    let rows = [
         ("+ 2 3", int(5)),
         ("- 2 5", int(-3)),
         ("* -4 5", int(-20)),
@@ -86,17 +98,13 @@ fn arithmetic(rt: HostRuntime) -> Result<(), Fail> {
         ("+ + big 1 - low 1", wide(BIG, 1)),
         ("- 1 - low 1", wide(LOW, 1)),
         ("- + big -1 -1", int(BIG)),
-    ] {
-        let e = notation::read(rt.alloc(), text)?;
-        assert_eq!(rt; world.eval(&e), wanted, "{text}");
-    }
-    Ok(())
+    ];
+    hold(&rt, rt.alloc(), &rows)
 }
 
 #[test]
 fn comparisons(rt: HostRuntime) -> Result<(), Fail> {
-    let world = World::new(rt.alloc())?;
-    for (text, wanted) in [
+    let rows = [
         ("< 2 3", int(1)),
         ("< 3 3", int(0)),
         ("<= 3 3", int(1)),
@@ -115,17 +123,13 @@ fn comparisons(rt: HostRuntime) -> Result<(), Fail> {
         ("== null 0", int(0)),
         ("== + big 1 - low 1", wide(BIG, 1)),
         ("< 1 - low 1", wide(LOW, 1)),
-    ] {
-        let e = notation::read(rt.alloc(), text)?;
-        assert_eq!(rt; world.eval(&e), wanted, "{text}");
-    }
-    Ok(())
+    ];
+    hold(&rt, rt.alloc(), &rows)
 }
 
 #[test]
 fn connectives(rt: HostRuntime) -> Result<(), Fail> {
-    let world = World::new(rt.alloc())?;
-    for (text, wanted) in [
+    let rows = [
         ("&& 2 3", int(1)),
         ("&& 2 null", int(0)),
         ("&& 0 + big 1", int(0)),
@@ -148,17 +152,13 @@ fn connectives(rt: HostRuntime) -> Result<(), Fail> {
         ("?: 0 + big 1 8", int(8)),
         ("?: + big 1 7 8", wide(BIG, 1)),
         ("?: null a b", at(3, 2)),
-    ] {
-        let e = notation::read(rt.alloc(), text)?;
-        assert_eq!(rt; world.eval(&e), wanted, "{text}");
-    }
-    Ok(())
+    ];
+    hold(&rt, rt.alloc(), &rows)
 }
 
 #[test]
 fn heaps_and_statuses(rt: HostRuntime) -> Result<(), Fail> {
-    let world = World::new(rt.alloc())?;
-    for (text, wanted) in [
+    let rows = [
         ("->n a", int(5)),
         ("->n null", int(0)),
         ("->p b", at(0, 0)),
@@ -184,18 +184,14 @@ fn heaps_and_statuses(rt: HostRuntime) -> Result<(), Fail> {
         ("mutable a", int(0)),
         ("mutable g", int(0)),
         ("mutable f", int(0)),
-    ] {
-        let e = notation::read(rt.alloc(), text)?;
-        assert_eq!(rt; world.eval(&e), wanted, "{text}");
-    }
-    Ok(())
+    ];
+    hold(&rt, rt.alloc(), &rows)
 }
 
 // At the function's entry x is 6, p is b, a is open, another thread's and owns b alone, and a->n is 4.
 #[test]
 fn the_earlier_heap(rt: HostRuntime) -> Result<(), Fail> {
-    let world = World::new(rt.alloc())?;
-    for (text, wanted) in [
+    let rows = [
         ("old x", int(6)),
         ("old p", at(3, 2)),
         ("old y", int(100)),
@@ -222,18 +218,14 @@ fn the_earlier_heap(rt: HostRuntime) -> Result<(), Fail> {
         ("unchanged ->n a", int(0)),
         ("unchanged + big - x 6", wide(BIG, 1)),
         ("unchanged + big x", wide(BIG, 6)),
-    ] {
-        let e = notation::read(rt.alloc(), text)?;
-        assert_eq!(rt; world.eval(&e), wanted, "{text}");
-    }
-    Ok(())
+    ];
+    hold(&rt, rt.alloc(), &rows)
 }
 
 // The claim k claims b and w. It was made with shape 0 at b and 7, shape 1 at me, a and 42, and shape 2 at c.
 #[test]
 fn claims(rt: HostRuntime) -> Result<(), Fail> {
-    let world = World::new(rt.alloc())?;
-    for (text, wanted) in [
+    let rows = [
         ("claims_object k b", int(1)),
         ("claims_object k c", int(0)),
         ("claims_object null b", int(0)),
@@ -259,18 +251,14 @@ fn claims(rt: HostRuntime) -> Result<(), Fail> {
         ("old claims k 1 lists w", int(0)),
         ("some obj a 1 claims k 1 has 2 q .", int(1)),
         ("all obj a claims k 1 has 2 q .", int(0)),
-    ] {
-        let e = notation::read(rt.alloc(), text)?;
-        assert_eq!(rt; world.eval(&e), wanted, "{text}");
-    }
-    Ok(())
+    ];
+    hold(&rt, rt.alloc(), &rows)
 }
 
 // Now a owns b, c and d, of the types 3, 4 and 4, with 10, -3 and the greatest number in n.
 #[test]
 fn quantifiers(rt: HostRuntime) -> Result<(), Fail> {
-    let world = World::new(rt.alloc())?;
-    for (text, wanted) in [
+    let rows = [
         ("all 3 a == ->n q 10", int(1)),
         ("all 4 a < ->n q 0", int(0)),
         ("all obj a <= ->n q big", int(1)),
@@ -298,11 +286,8 @@ fn quantifiers(rt: HostRuntime) -> Result<(), Fail> {
         ("all obj old p false", int(1)),
         ("&& in b this in c this", int(1)),
         ("&& in a this in + big 1 this", int(0)),
-    ] {
-        let e = notation::read(rt.alloc(), text)?;
-        assert_eq!(rt; world.eval(&e), wanted, "{text}");
-    }
-    Ok(())
+    ];
+    hold(&rt, rt.alloc(), &rows)
 }
 
 #[test]
