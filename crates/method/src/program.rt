@@ -1,4 +1,4 @@
-//! The typed program: what the typing of a source leaves.
+//! The typed program: what the typing of a source leaves. Names are bytes, as the source has them.
 
 use int_ranges::ctype::CType;
 
@@ -265,7 +265,7 @@ pub struct Clause {
 /// A field. Its place in the program's table is its number; its column is 5 more.
 #[derive(Drop)]
 pub struct FieldInfo {
-    pub name: String,
+    pub name: Vec<u8>,
     /// the struct's type number
     pub of: u32,
     pub ty: DeclaredType,
@@ -277,7 +277,7 @@ pub struct FieldInfo {
 /// `first_field` on.
 #[derive(Drop)]
 pub struct StructInfo {
-    pub name: String,
+    pub name: Vec<u8>,
     pub line: u32,
     pub is_claimable: bool,
     pub has_dynamic_owns: bool,
@@ -291,7 +291,7 @@ pub struct StructInfo {
 
 #[derive(Drop)]
 pub struct VariableInfo {
-    pub name: String,
+    pub name: Vec<u8>,
     pub ty: DeclaredType,
     pub is_ghost: bool,
 }
@@ -299,7 +299,7 @@ pub struct VariableInfo {
 /// A function. Its variables stand in order of declaration, parameters first.
 #[derive(Drop)]
 pub struct FunctionInfo {
-    pub name: String,
+    pub name: Vec<u8>,
     pub result: Option<DeclaredType>,
     pub parameters: u32,
     pub variables: Vec<VariableInfo>,

@@ -89,7 +89,7 @@ fn heap_of(alloc: Global, rows: &[Row]) -> Result<Heap, AllocError> {
 
 fn one_struct(alloc: Global, has_volatile_owns: bool) -> Result<StructInfo, AllocError> {
     Ok(StructInfo {
-        name: String::new(alloc),
+        name: Vec::new(alloc),
         line: 1,
         is_claimable: true,
         has_dynamic_owns: true,

@@ -1,5 +1,5 @@
 -- The tables that values of `method` stand for.
-use Rattle.std.specs.Prelude.{List, [], ◌∷◌, map, string_bytes}
+use Rattle.std.specs.Prelude.{List, [], ◌∷◌, map}
 use Rattle.method.specs.declared.program.Expr.{Expr}
 use Rattle.method.specs.declared.program.Expr.TheVariants as e
 use Rattle.method.specs.declared.program.Conjunct.{Conjunct}
@@ -189,11 +189,11 @@ abbrev pub clause : Clause → t.Clause
 clause x = record { line = x.line; spec = spec x.spec }
 
 abbrev pub field : FieldInfo → t.FieldInfo
-field x = record { name = string_bytes x.name; of = x.of; ty = x.ty; is_volatile = x.is_volatile; is_ghost = x.is_ghost }
+field x = record { name = x.name.items; of = x.of; ty = x.ty; is_volatile = x.is_volatile; is_ghost = x.is_ghost }
 
 abbrev pub struct : StructInfo → t.StructInfo
 struct x = record {
-  name = string_bytes x.name;
+  name = x.name.items;
   line = x.line;
   is_claimable = x.is_claimable;
   has_dynamic_owns = x.has_dynamic_owns;
@@ -205,11 +205,11 @@ struct x = record {
 }
 
 abbrev pub variable : VariableInfo → t.VariableInfo
-variable x = record { name = string_bytes x.name; ty = x.ty; is_ghost = x.is_ghost }
+variable x = record { name = x.name.items; ty = x.ty; is_ghost = x.is_ghost }
 
 abbrev pub function : FunctionInfo → t.FunctionInfo
 function x = record {
-  name = string_bytes x.name;
+  name = x.name.items;
   value = x.result;
   parameters = x.parameters;
   variables = map variable x.variables.items;

@@ -75,7 +75,7 @@ fn is_positive(alloc: Global) -> Result<Spec, AllocError> {
 }
 
 fn a_struct(alloc: Global, name: &str, invariants: Vec<Spec>) -> Result<StructInfo, AllocError> {
-    let name = String::from_str(alloc, name)?;
+    let name = Vec::from_slice(alloc, name.as_bytes())?;
     Ok(StructInfo {
         name,
         line: 1,
@@ -122,7 +122,7 @@ fn shapes(alloc: Global) -> Result<Vec<Shape>, AllocError> {
 fn program(alloc: Global) -> Result<Program, AllocError> {
     let structs = structs(alloc)?;
     let shapes = shapes(alloc)?;
-    let name = String::from_str(alloc, "n")?;
+    let name = Vec::from_slice(alloc, b"n")?;
     let mut fields = Vec::new(alloc);
     fields.push(FieldInfo {
         name,

@@ -129,7 +129,7 @@ fn env(alloc: Global) -> Result<Env, AllocError> {
 }
 
 fn field(alloc: Global, name: &str, ty: DeclaredType) -> Result<FieldInfo, AllocError> {
-    let name = String::from_str(alloc, name)?;
+    let name = Vec::from_slice(alloc, name.as_bytes())?;
     Ok(FieldInfo {
         name,
         of: 3,
