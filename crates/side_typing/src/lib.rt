@@ -1,0 +1,7 @@
+//! Sides of statements as they are typed: places, right sides, calls, assignments, and ghost statements that are no blocks.
+#![tactic(auto)]
+
+pub mod before;
+pub mod places;
+pub mod together;
+pub mod values;
