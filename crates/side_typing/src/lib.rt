@@ -2,6 +2,8 @@
 #![tactic(auto)]
 
 pub mod before;
+pub mod calls;
+pub mod interlocked;
 pub mod places;
 pub mod together;
 pub mod values;
