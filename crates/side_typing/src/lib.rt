@@ -5,5 +5,6 @@ pub mod before;
 pub mod calls;
 pub mod interlocked;
 pub mod places;
+pub mod rights;
 pub mod together;
 pub mod values;
