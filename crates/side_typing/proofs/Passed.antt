@@ -3,7 +3,6 @@ use Rattle.std.proofs.Common.{◌≡◌, ℕ, zero, suc, ◌+◌, ◌<◌, ◌�
 use Rattle.std.proofs.lemmas.List.{map-append}
 use Rattle.c_syntax.specs.declared.expressions.Expr.{Expr}
 use Rattle.c_syntax.specs.declared.items.Parameter.{Parameter}
-use Rattle.c_syntax.specs.Expressions.{Exp}
 use Rattle.c_syntax.specs.Items.{Param}
 use Rattle.c_syntax.specs.Views as view
 use Rattle.expr_rules.proofs.Rows.{drop_at}
@@ -24,8 +23,8 @@ pub one_passed : (a : Around) (ps : List Parameter) (xs : List Expr) (n : ℕ) (
 one_passed a ps xs n p x got v whole lp lx ip ix made before =
     let rest = left a ps xs (n + 1) in
     let first : left a ps xs n ≡ stored a (view.ty p.ty) (view.exp x) ∷ rest =
-        ap (λ (qs : List Parameter). passed a (map view.parameter qs) (view.exps (drop n xs))) (drop_at ps n p lp ip)
-        ∙ ap (λ (ys : List Expr). passed a (map view.parameter (p ∷ drop (n + 1) ps)) (view.exps ys)) (drop_at xs n x lx ix) in
+    ap (λ (qs : List Parameter). passed a (map view.parameter qs) (view.exps (drop n xs))) (drop_at ps n p lp ip)
+    ∙ ap (λ (ys : List Expr). passed a (map view.parameter (p ∷ drop (n + 1) ps)) (view.exps ys)) (drop_at xs n x lx ix) in
     ap (λ (cs : List Code). cs ++ rest) (map-append seen.code got (v ∷ []))
     ∙ append_assoc (seen.codes got) (seen.code v ∷ []) rest
     ∙ ap (λ (c : Code). seen.codes got ++ c ∷ rest) made

@@ -25,7 +25,11 @@ use std::alloc::{AllocError, Global};
 fn value_of_call<'s, 'a>(around: Around<'s, 'a>, x: &Call) -> Option<&'a ValueType>
     ensures { option_map (λ t. view.ty t.now) result ≡ spec.value_of_call (here around.entry) (view.call x.now) }
 {
-    let function = around.context.scope.declarations.find_function(&x.function)?;
+    let function = around
+        .context
+        .scope
+        .declarations
+        .find_function(&x.function)?;
     function.result.as_ref()
 }
 
@@ -64,14 +68,7 @@ fn received<'s, 'a>(
 {
     let place = target(alloc, around, left)?;
     let conversion = conversion_between(value_of_call(around, x), left_type(around, left));
-    call_of(
-        alloc,
-        around,
-        line,
-        Receiver::Place(place),
-        conversion,
-        x,
-    )
+    call_of(alloc, around, line, Receiver::Place(place), conversion, x)
 }
 
 /// What an assignment does, where its right side is no call.

@@ -93,11 +93,5 @@ pub fn call_of<'s, 'a>(
     ensures { IfOk result (λ v. seen.stmt v ≡ spec.call_of (here around.entry) line (seen.receiver to) conversion (view.call x.now)) }
 {
     let (to, parts) = together(to, call_parts(alloc, around, x))?;
-    Ok(Stmt::Call(
-        line,
-        to,
-        conversion,
-        parts.function,
-        parts.arguments,
-    ))
+    Ok(Stmt::Call(line, to, conversion, parts.function, parts.arguments))
 }

@@ -17,8 +17,7 @@ use crate::values::{code, codes, stored};
 use c_syntax::expressions::{Expr as Tree, ValueType};
 use c_syntax::ghosts::{GhostRight, Members, OwnsChange};
 use code_typing::around::Around;
-use method::program::OwnsChange as Sign;
-use method::program::{Expr, RightSide, Simple};
+use method::program::{Expr, OwnsChange as Sign, RightSide, Simple};
 use std::alloc::{AllocError, Global};
 
 /// A right side of ghost code that is stored in a place of this type.
@@ -58,11 +57,7 @@ pub fn ghost_assigned<'s, 'a>(
 }
 
 /// The object whose owned set this is.
-fn owner_of<'s, 'a>(
-    alloc: Global,
-    around: Around<'s, 'a>,
-    x: &'a Tree,
-) -> Result<Expr, AllocError>
+fn owner_of<'s, 'a>(alloc: Global, around: Around<'s, 'a>, x: &'a Tree) -> Result<Expr, AllocError>
     ensures { IfOk result (λ v. seen.code v ≡ spec.owner_of (here around.entry) (view.exp x.now)) }
 {
     match x {

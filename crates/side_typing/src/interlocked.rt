@@ -34,11 +34,7 @@ fn integer_type<'s, 'a>(
 }
 
 /// The object whose field an Interlocked call changes.
-fn object_of<'s, 'a>(
-    alloc: Global,
-    around: Around<'s, 'a>,
-    x: &'a Tree,
-) -> Result<Expr, AllocError>
+fn object_of<'s, 'a>(alloc: Global, around: Around<'s, 'a>, x: &'a Tree) -> Result<Expr, AllocError>
     ensures { IfOk result (λ v. seen.code v ≡ spec.object_of (here around.entry) (view.exp x.now)) }
 {
     match x {
@@ -182,10 +178,7 @@ fn effects_of<'s, 'a>(
     let field = integer_type(alloc, around, &x.field)?;
     let to = integer_of(Some(ty));
     let operation = operation_on(alloc, around, field, x.function, &x.arguments)?;
-    let (operation, value) = together(
-        operation,
-        afterwards(alloc, around, field, to, compared),
-    )?;
+    let (operation, value) = together(operation, afterwards(alloc, around, field, to, compared))?;
     Ok(Effects { operation, value })
 }
 
@@ -202,10 +195,5 @@ pub fn interlocked<'s, 'a>(
     let number = number_of(around, &x.field)?;
     let object = object_of(alloc, around, &x.field)?;
     let (object, effects) = together(object, effects_of(alloc, around, ty, x, compared))?;
-    Ok(RightSide::Interlocked(
-        object,
-        number,
-        effects.operation,
-        effects.value,
-    ))
+    Ok(RightSide::Interlocked(object, number, effects.operation, effects.value))
 }
