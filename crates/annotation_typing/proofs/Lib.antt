@@ -1,0 +1,4 @@
+pub mod Laws
+pub mod Specs
+pub mod Steps
+pub mod Vectors

@@ -1,0 +1,260 @@
+//! Expressions of annotations out of what their parts are.
+
+ghost use Rattle.std.specs.Prelude.{◌≡◌, IfOk, ◌∷◌, true};
+ghost use Rattle.c_syntax.specs.Views as view;
+ghost use Rattle.code_typing.specs.Views.{around as surroundings, meaning as of_name};
+ghost use Rattle.expr_rules.specs.Views.{quantified as bound};
+ghost use Rattle.typed_program.specs.Annotations as spec;
+ghost use Rattle.typed_program.specs.Codes.{binary as binary_form};
+ghost use Rattle.typed_program.specs.Numbers as numbers;
+ghost use Rattle.typed_program.specs.Trees as t;
+ghost use Rattle.typed_program.specs.Views.{spec as said};
+ghost use Rattle.annotation_typing.specs.Typing.{alone, one, two, three};
+ghost use Rattle.annotation_typing.specs.Views.{annotation as seen};
+
+use crate::annotations::TypedSpec;
+use c_syntax::expressions::{Expr, Identifier, ValueType};
+use c_syntax::tree::{BinaryOperator, Constant, SpecFunction, Status, UnaryOperator};
+use code_typing::around::{Around, Meaning};
+use code_typing::numbers::{field_of_kind, meaning};
+use expr_rules::context::{Context, Quantified, Scope};
+use expr_rules::expressions::expression;
+use method::program::{Comparison, Operator, Spec};
+use std::alloc::{AllocError, Global};
+
+/// A word.
+pub fn word(constant: Constant) -> Spec
+    ensures { said result ≡ spec.word constant }
+{
+    match constant {
+        Constant::True => Spec::Truth(true),
+        Constant::False => Spec::Truth(false),
+        Constant::This => Spec::This,
+        Constant::Me => Spec::Me,
+        Constant::Result => Spec::Result,
+    }
+}
+
+/// A bare name, which has this meaning.
+fn named(alloc: Global, meaning: Meaning) -> Result<Spec, AllocError>
+    ensures { IfOk result (λ s. said s ≡ spec.name (of_name meaning)) }
+{
+    match meaning {
+        Meaning::OfQuantifier(place) => Ok(Spec::Bound(place)),
+        Meaning::OfFunction(place) => Ok(Spec::Variable(place)),
+        Meaning::OwnField(field) => {
+            let this = Box::new(alloc, Spec::This)?;
+            Ok(Spec::Field(this, field))
+        }
+    }
+}
+
+/// A bare name.
+pub fn name(
+    alloc: Global,
+    around: Around<'_, '_>,
+    first: u32,
+    known: &Identifier,
+) -> Result<TypedSpec, AllocError>
+    ensures { IfOk result (λ v. seen v ≡ alone (spec.name (numbers.meaning (surroundings around.entry) (view.id known.now))) first) }
+{
+    let means = meaning(around, known)?;
+    let spec = named(alloc, means)?;
+    Ok(TypedSpec { spec, next: first })
+}
+
+/// A field of an object.
+pub fn field<'s, 'a>(
+    alloc: Global,
+    around: Around<'s, 'a>,
+    left: &'a Expr,
+    named: &Identifier,
+    inner: TypedSpec,
+) -> Result<TypedSpec, AllocError>
+    ensures { IfOk result (λ v. seen v ≡ one (λ w. t.SField w (numbers.field_at (surroundings around.entry) (view.exp left.now) (view.id named.now))) (seen inner)) }
+{
+    let owner = expression(around.context, left);
+    let number = field_of_kind(around.context.scope.declarations, owner.kind, named)?;
+    let next = inner.next;
+    let object = Box::new(alloc, inner.spec)?;
+    Ok(TypedSpec {
+        spec: Spec::Field(object, number),
+        next,
+    })
+}
+
+/// A word about an object's status.
+pub fn status(alloc: Global, which: Status, inner: TypedSpec) -> Result<TypedSpec, AllocError>
+    ensures { IfOk result (λ v. seen v ≡ one (spec.status which) (seen inner)) }
+{
+    let next = inner.next;
+    let object = Box::new(alloc, inner.spec)?;
+    let spec = match which {
+        Status::Closed => Spec::Closed(object),
+        Status::Owner => Spec::Owner(object),
+        Status::ClaimCount => Spec::ClaimCount(object),
+    };
+    Ok(TypedSpec { spec, next })
+}
+
+/// That an object is closed, as a conjunct of a property.
+pub fn lists(alloc: Global, inner: TypedSpec) -> Result<TypedSpec, AllocError>
+    ensures { IfOk result (λ v. seen v ≡ one t.SLists (seen inner)) }
+{
+    let next = inner.next;
+    let object = Box::new(alloc, inner.spec)?;
+    Ok(TypedSpec {
+        spec: Spec::Lists(object),
+        next,
+    })
+}
+
+/// An operator in front of an operand.
+pub fn unary(
+    alloc: Global,
+    operator: UnaryOperator,
+    inner: TypedSpec,
+) -> Result<TypedSpec, AllocError>
+    ensures { IfOk result (λ v. seen v ≡ one (spec.negation operator) (seen inner)) }
+{
+    let next = inner.next;
+    let operand = Box::new(alloc, inner.spec)?;
+    let spec = match operator {
+        UnaryOperator::Not => Spec::Not(operand),
+        UnaryOperator::Negate => Spec::Negate(operand),
+    };
+    Ok(TypedSpec { spec, next })
+}
+
+/// A word with one argument.
+fn applied(function: SpecFunction, argument: Box<Spec>) -> Spec
+    ensures { said result ≡ spec.applied function (said argument.value) }
+{
+    match function {
+        SpecFunction::Old => Spec::Old(argument),
+        SpecFunction::Unchanged => Spec::Unchanged(argument),
+        SpecFunction::Wrapped => Spec::Wrapped(argument),
+        SpecFunction::WrappedUnclaimed => Spec::Wrapped0(argument),
+        SpecFunction::Mutable => Spec::Mutable(argument),
+        SpecFunction::Fresh => Spec::Fresh(argument),
+    }
+}
+
+/// A word with one argument.
+pub fn apply(
+    alloc: Global,
+    function: SpecFunction,
+    inner: TypedSpec,
+) -> Result<TypedSpec, AllocError>
+    ensures { IfOk result (λ v. seen v ≡ one (spec.applied function) (seen inner)) }
+{
+    let next = inner.next;
+    let argument = Box::new(alloc, inner.spec)?;
+    Ok(TypedSpec {
+        spec: applied(function, argument),
+        next,
+    })
+}
+
+/// An operator between its operands.
+fn joined(operator: BinaryOperator, left: Box<Spec>, right: Box<Spec>) -> Spec
+    ensures { said result ≡ spec.joined (binary_form operator) (said left.value) (said right.value) }
+{
+    match operator {
+        BinaryOperator::Times => Spec::Arithmetic(Operator::Times, left, right),
+        BinaryOperator::Over => Spec::Arithmetic(Operator::Over, left, right),
+        BinaryOperator::Modulo => Spec::Arithmetic(Operator::Modulo, left, right),
+        BinaryOperator::Plus => Spec::Arithmetic(Operator::Plus, left, right),
+        BinaryOperator::Minus => Spec::Arithmetic(Operator::Minus, left, right),
+        BinaryOperator::Less => Spec::Compare(Comparison::Less, left, right),
+        BinaryOperator::LessEqual => Spec::Compare(Comparison::LessEqual, left, right),
+        BinaryOperator::Greater => Spec::Compare(Comparison::Greater, left, right),
+        BinaryOperator::GreaterEqual => Spec::Compare(Comparison::GreaterEqual, left, right),
+        BinaryOperator::In => Spec::Member(left, right),
+        BinaryOperator::Equal => Spec::Compare(Comparison::Equal, left, right),
+        BinaryOperator::NotEqual => Spec::Compare(Comparison::NotEqual, left, right),
+        BinaryOperator::And => Spec::And(left, right),
+        BinaryOperator::Or => Spec::Or(left, right),
+        BinaryOperator::Implies => Spec::Implies(left, right),
+        BinaryOperator::Equivalent => Spec::Iff(left, right),
+    }
+}
+
+/// An operator between its operands.
+pub fn binary(
+    alloc: Global,
+    operator: BinaryOperator,
+    left: TypedSpec,
+    right: TypedSpec,
+) -> Result<TypedSpec, AllocError>
+    ensures { IfOk result (λ v. seen v ≡ two (spec.joined (binary_form operator)) (seen left) (seen right)) }
+{
+    let next = right.next;
+    let first = Box::new(alloc, left.spec)?;
+    let second = Box::new(alloc, right.spec)?;
+    Ok(TypedSpec {
+        spec: joined(operator, first, second),
+        next,
+    })
+}
+
+/// `?:` between its test and branches.
+pub fn conditional(
+    alloc: Global,
+    test: TypedSpec,
+    left: TypedSpec,
+    right: TypedSpec,
+) -> Result<TypedSpec, AllocError>
+    ensures { IfOk result (λ v. seen v ≡ three t.SChoose (seen test) (seen left) (seen right)) }
+{
+    let next = right.next;
+    let condition = Box::new(alloc, test.spec)?;
+    let first = Box::new(alloc, left.spec)?;
+    let second = Box::new(alloc, right.spec)?;
+    Ok(TypedSpec {
+        spec: Spec::Choose(condition, first, second),
+        next,
+    })
+}
+
+/// That a claim claims an object.
+pub fn claims_object(
+    alloc: Global,
+    claim: TypedSpec,
+    object: TypedSpec,
+) -> Result<TypedSpec, AllocError>
+    ensures { IfOk result (λ v. seen v ≡ two t.SClaimsObject (seen claim) (seen object)) }
+{
+    let next = object.next;
+    let first = Box::new(alloc, claim.spec)?;
+    let second = Box::new(alloc, object.spec)?;
+    Ok(TypedSpec {
+        spec: Spec::ClaimsObject(first, second),
+        next,
+    })
+}
+
+/// What stands around the body of a quantifier.
+pub fn within_quantifier<'q, 's, 'a>(
+    around: Around<'s, 'a>,
+    ty: &'a ValueType,
+    variable: &'a Identifier,
+    all: &'q Quantified<'q, 'a>,
+) -> Around<'q, 'a>
+where
+    's: 'q,
+    requires { bound all.now ≡ record { name = view.id variable.now; ty = view.ty ty.now; is_ghost = true } ∷ bound around.context.scope.quantified.now }
+    ensures { surroundings result ≡ spec.within_quantifier (view.ty ty.now) (view.id variable.now) (surroundings around.entry) }
+{
+    let inside = around.context.quantified(ty, variable, all);
+    Around {
+        context: Context {
+            scope: Scope {
+                quantified: all,
+                ..around.context.scope
+            },
+            ..inside
+        },
+        places: around.places,
+    }
+}
