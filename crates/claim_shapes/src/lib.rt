@@ -1,0 +1,7 @@
+//! Conjuncts of claims: what fills their holes, their shapes, and expressions in which they stand by the numbers of
+//! their shapes.
+#![tactic(auto)]
+
+pub mod holes;
+pub mod same;
+pub mod sorts;
