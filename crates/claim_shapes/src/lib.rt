@@ -2,6 +2,8 @@
 //! their shapes.
 #![tactic(auto)]
 
+pub mod copies;
 pub mod holes;
 pub mod same;
+pub mod shapes;
 pub mod sorts;
