@@ -1,3 +1,4 @@
 pub mod Rows
 pub mod Alike
 pub mod Holed
+pub mod Numbering

@@ -4,6 +4,7 @@
 
 pub mod copies;
 pub mod holes;
+pub mod numbered;
 pub mod same;
 pub mod shapes;
 pub mod sorts;
