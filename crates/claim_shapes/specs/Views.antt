@@ -2,6 +2,6 @@
 use Rattle.typed_program.specs.Shapes as spec
 use Rattle.claim_shapes.specs.declared.sorts.Sorts.{Sorts}
 
--- own: the sorts of a function's variables, without where they lie in memory
+-- Own: the sorts of a function's variables, without where they lie in memory
 abbrev pub sorts : Sorts → spec.Sorts
 sorts s = record { variables = s.variables.items; value = s.value }

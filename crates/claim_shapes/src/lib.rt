@@ -2,7 +2,8 @@
 //! their shapes.
 #![tactic(auto)]
 
-pub mod copies;
+pub mod collect;
+mod copies;
 pub mod holes;
 pub mod numbered;
 pub mod same;

@@ -57,7 +57,7 @@ fn hole(alloc: Global, number: u32) -> Result<WithHoles, AllocError>
 }
 
 /// A conjunct that has a number, in which holes aren't opened.
-fn numbered(alloc: Global, next: u32, x: &Conjunct) -> Result<WithHoles, AllocError>
+fn kept(alloc: Global, next: u32, x: &Conjunct) -> Result<WithHoles, AllocError>
     ensures spec { IfOk result (λ o. seen.spec o.spec.value ≡ seen.spec (Spec.Has x.now)) }
     ensures next { IfOk result (λ o. o.next ≡ next + length x.now.holes.items) }
 {
@@ -183,7 +183,7 @@ fn opened(alloc: Global, next: u32, x: &Spec) -> Result<WithHoles, AllocError>
             let x = opened(alloc, next, x)?;
             boxed(alloc, Spec::Lists(x.spec), x.next)
         }
-        Spec::Has(conjunct) => numbered(alloc, next, conjunct),
+        Spec::Has(conjunct) => kept(alloc, next, conjunct),
         Spec::ForAll(number, ty, x, y) => {
             let x = opened(alloc, next, x)?;
             let y = opened(alloc, x.next, y)?;
