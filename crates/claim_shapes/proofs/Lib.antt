@@ -1,0 +1,5 @@
+pub mod Rows
+pub mod Alike
+pub mod Holed
+pub mod Numbering
+pub mod Collecting
