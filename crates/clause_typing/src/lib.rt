@@ -1,0 +1,4 @@
+//! Annotations with numbered shapes: contracts, and the tables of structs and fields.
+#![tactic(auto)]
+
+pub mod numbering;
