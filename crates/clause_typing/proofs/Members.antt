@@ -11,13 +11,15 @@ use Rattle.annotation_typing.specs.Typing.{appended, nothing}
 use Rattle.annotation_typing.specs.Views.{Several}
 use Rattle.claim_shapes.proofs.Rows.{drop_at, drop_all}
 use Rattle.typed_program.specs.Annotations.{mine, formulas}
-use Rattle.typed_program.specs.Numbers.{Around}
+use Rattle.typed_program.specs.Numbers.{Around, fields_before}
+use Rattle.typed_program.specs.Shapes.{Sorts, numbered}
+use Rattle.c_types.specs.Declarations.{fields}
 use Rattle.typed_program.specs.Tables as tables
 use Rattle.typed_program.specs.Tables.{invariants_of, each_invariant, around_struct}
 use Rattle.typed_program.specs.Trees as t
 use Rattle.clause_typing.specs.Numberings.{Numbering, said}
 use Rattle.clause_typing.specs.Typing.{struct_invariants}
-use Rattle.clause_typing.specs.Members.{with_member, member_formulas, member_mine, has_fixed_set}
+use Rattle.clause_typing.specs.Members.{with_member, member_formulas, member_mine, has_fixed_set, struct_of, numbered_struct}
 
 abbrev several : List t.Spec → ℕ → Several
 several xs n = record { specs = xs; next = n }
@@ -90,3 +92,12 @@ around_members items s bound known names = record {
 -- no variables, and no quantifier
 pub around_is : (items : List Item) (s : StructTree) {bound known : List c.Variable} {names : List (List ℕ)} → bound ≡ [] → known ≡ [] → names ≡ [] → around_members items s bound known names ≡ around_struct items s
 around_is items s p q r = λ i. around_members items s (p i) (q i) (r i)
+
+-- a struct out of its parts
+pub struct_told : (k : Numbering) (items : List Item) (s : StructTree) (n : ℕ) (a : Around) {text : List ℕ} {before count : ℕ} {told owned : List t.Spec} → a ≡ around_struct items s → text ≡ s.name.name → before ≡ fields_before items s.name → count ≡ length (fields s.members)
+    → told ≡ (struct_invariants k a n (invariants_of s.members)).specs → owned ≡ map (numbered k.shapes k.sorts) (tables.fixed_set items s n) → struct_of s text before count told owned ≡ numbered_struct k (tables.struct items n s)
+struct_told k items s n a e p q r t u = λ i. struct_of s (p i) (q i) (r i) ((t ∙ ap (λ (b : Around). (struct_invariants k b n (invariants_of s.members)).specs) e) i) (u i)
+
+-- a struct speaks of no variables
+pub no_variables : (shapes : List t.Shape) {sorts : Sorts} {others : List Item} (items : List Item) (s : StructTree) (n : ℕ) → sorts ≡ tables.no_sorts → others ≡ items → numbered_struct (record { shapes = shapes; sorts = sorts }) (tables.struct others n s) ≡ tables.numbered_struct shapes (tables.struct items n s)
+no_variables shapes items s n p q = λ i. numbered_struct (record { shapes = shapes; sorts = p i }) (tables.struct (q i) n s)

@@ -187,7 +187,7 @@ fn fixed_set<'s, 'a>(
     first: u32,
     entry: &StructEntry<'a>,
 ) -> Result<Vec<Spec>, AllocError>
-    requires { here around.entry ≡ tables.around_struct (program around.entry.context.scope.declarations.now) (view.struct entry.now.tree.now) }
+    requires { here around ≡ tables.around_struct (program around.context.scope.declarations.now) (view.struct entry.now.tree.now) }
     ensures { IfOk result (λ v. seen.specs v.items ≡ map (with_shapes (shaped numbering.entry).shapes (shaped numbering.entry).sorts) (tables.fixed_set (program around.entry.context.scope.declarations.now) (view.struct entry.now.tree.now) first)) }
 {
     if has_fixed_set(entry) {
@@ -246,7 +246,7 @@ fn told<'s, 'a>(
     first: u32,
     entry: &StructEntry<'a>,
 ) -> Result<StructInfo, AllocError>
-    requires { here around.entry ≡ tables.around_struct (program around.entry.context.scope.declarations.now) (view.struct entry.now.tree.now) }
+    requires { here around ≡ tables.around_struct (program around.context.scope.declarations.now) (view.struct entry.now.tree.now) }
     ensures { IfOk result (λ v. seen.struct v ≡ members.numbered_struct (shaped numbering.entry) (tables.struct (program around.entry.context.scope.declarations.now) first (view.struct entry.now.tree.now))) }
 {
     let rows = invariants(alloc, around, numbering, first, &entry.tree.members)?;
