@@ -3,7 +3,6 @@ use Rattle.std.proofs.Common.{◌≡◌, ℕ, ◌+◌, ◌<◌, ◌≤◌, Bool,
 use Rattle.std.proofs.lemmas.List.{map-append}
 use Rattle.c_syntax.specs.declared.items.Member as m
 use Rattle.c_syntax.specs.Views as view
-use Rattle.c_syntax.specs.Expressions.{Exp}
 use Rattle.c_syntax.specs.Items as i
 use Rattle.c_syntax.specs.Items.{Member, StructTree, Item}
 use Rattle.c_types.specs.Contexts as c

@@ -1,5 +1,5 @@
 -- Members of a struct as they are typed, and a struct out of its parts. Own.
-use Rattle.std.specs.Prelude.{ℕ, ◌+◌, Bool, not, ◌&&◌, List, [], map}
+use Rattle.std.specs.Prelude.{ℕ, Bool, not, ◌&&◌, List, [], map}
 use Rattle.c_syntax.specs.Items as i
 use Rattle.c_syntax.specs.Items.{Member, StructTree}
 use Rattle.c_types.specs.Declarations.{is_claimable, has_dynamic_owns, has_volatile_owns}

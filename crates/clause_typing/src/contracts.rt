@@ -12,6 +12,7 @@ ghost use Rattle.typed_program.specs.Trees as t;
 ghost use Rattle.typed_program.specs.Views as seen;
 ghost use Rattle.clause_typing.specs.Typing as spec;
 
+use crate::numbering::{Numbering, said};
 use annotation_typing::counts::behind;
 use c_syntax::expressions::Expr;
 use c_syntax::items::{Clause, WritesItem};
@@ -20,7 +21,6 @@ use c_syntax::tree::Condition;
 use code_typing::around::Around;
 use expr_rules::context::{Context, Scope, Text};
 use method::program::{Clause as ClauseInfo, Spec};
-use crate::numbering::{Numbering, said};
 use std::alloc::{AllocError, Global};
 
 /// The expression of an item of a writes list.
@@ -276,7 +276,15 @@ fn add_precondition<'s, 'a>(
             alloc, around, numbering, first, *span, *condition, property, so_far,
         ),
         Clause::Writes(span, all) => {
-            add_mutable(alloc, in_writes(around), numbering, first, *span, all, so_far)
+            add_mutable(
+                alloc,
+                in_writes(around),
+                numbering,
+                first,
+                *span,
+                all,
+                so_far,
+            )
         }
     }
 }

@@ -20,6 +20,7 @@ ghost use Rattle.typed_program.specs.Views as seen;
 ghost use Rattle.clause_typing.specs.Typing as spec;
 
 use crate::fields::text;
+use crate::numbering::{Numbering, said};
 use annotation_typing::annotations::mine;
 use annotation_typing::counts::behind;
 use annotation_typing::rows::Row as Annotations;
@@ -33,7 +34,6 @@ use declared_names::declarations::{Declarations, StructEntry};
 use declared_names::variables::Variables;
 use expr_rules::context::{Context, InProperty, Quantified, Scope, Text};
 use method::program::{Shape, Sort, Spec, StructInfo};
-use crate::numbering::{Numbering, said};
 use std::alloc::{AllocError, Global};
 
 /// What stands around a struct's invariants.
@@ -198,10 +198,7 @@ fn fixed_set<'s, 'a>(
 }
 
 /// How many fields the structs before this one have.
-fn first_field(
-    declarations: &Declarations<'_>,
-    entry: &StructEntry<'_>,
-) -> Result<u32, AllocError>
+fn first_field(declarations: &Declarations<'_>, entry: &StructEntry<'_>) -> Result<u32, AllocError>
     ensures { IfOk result (λ n. n ≡ fields_before (program declarations.now) (view.struct entry.now.tree.now).name) }
 {
     number(declarations.fields_before(&entry.tree.name).unwrap_or(0))

@@ -1,16 +1,12 @@
-use Rattle.std.proofs.Common.{◌≡◌, ℕ, ◌+◌, [], ◌∷◌, refl, sym, ap, ◌∙◌, map, arith}
+use Rattle.std.proofs.Common.{◌+◌, refl, ap, ◌∙◌, map, arith}
 use Rattle.c_syntax.specs.Views as view
 use Rattle.code_typing.specs.Views.{around}
-use Rattle.annotation_typing.specs.Views.{Typed}
-use Rattle.typed_program.specs.Annotations.{formulas, spec}
-use Rattle.typed_program.specs.Shapes.{numbered}
+use Rattle.typed_program.specs.Annotations.{formulas}
 use Rattle.typed_program.specs.Tables as tables
 use Rattle.typed_program.specs.Tables.{item_of, clause_formulas}
-use Rattle.typed_program.specs.Trees as t
-use Rattle.typed_program.specs.Views as seen
-use Rattle.clause_typing.specs.Numberings.{numbering, said, typed_said}
-use Rattle.clause_typing.proofs.Steps.{pushed_one, none_added, others_added, one_more, all_added}
-use Rattle.clause_typing.proofs.Clauses.{whole_item, bare_item, mutable_law, clause_law}
+use Rattle.clause_typing.specs.Numberings.{numbering}
+use Rattle.clause_typing.proofs.Steps.{one_more, all_added}
+use Rattle.clause_typing.proofs.Clauses.{mutable_law}
 use Rattle.clause_typing.proofs.contracts.add_mutable.Goals as goal
 
 pub loop-x-preserved : goal.loop-x-preserved

@@ -1,6 +1,5 @@
-use Rattle.std.proofs.Common.{◌≡◌, ℕ, ◌+◌, refl, sym, ap, ◌∙◌, List, map, take, arith}
+use Rattle.std.proofs.Common.{ℕ, sym, ap, ◌∙◌, List, map, take, arith}
 use Rattle.c_syntax.specs.declared.statements.Invariant.{Invariant}
-use Rattle.c_syntax.specs.Statements.{Inv}
 use Rattle.c_syntax.specs.Views as view
 use Rattle.code_typing.specs.Views.{around}
 use Rattle.expr_rules.proofs.Rows.{take_at, take_all}

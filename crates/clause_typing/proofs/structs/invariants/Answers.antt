@@ -1,6 +1,5 @@
 use Rattle.std.proofs.Common.{arith}
 use Rattle.code_typing.specs.Views.{around}
-use Rattle.annotation_typing.specs.Views.{row_of}
 use Rattle.clause_typing.specs.Numberings.{numbering}
 use Rattle.clause_typing.proofs.Members.{member_added, none_left, all_left}
 use Rattle.clause_typing.proofs.structs.invariants.Goals as goal
