@@ -1,0 +1,4 @@
+pub mod Invariants
+pub mod Steps
+pub mod Clauses
+pub mod Members

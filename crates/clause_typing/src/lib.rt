@@ -1,0 +1,7 @@
+//! Annotations with numbered shapes: contracts, and the tables of structs and fields.
+#![tactic(auto)]
+
+pub mod contracts;
+pub mod fields;
+pub mod numbering;
+pub mod structs;
