@@ -17,8 +17,8 @@ more f v start before after xs i y lt is so_far added =
     then_added start before after (flat_map f done) (f (v y)) (flat_map f (map v (take (i + 1) xs))) so_far added
     (sym (ap (flat_map f) (take_at v xs i y lt is) ∙ (flat_map-append f done (v y ∷ []) ∙ ap (λ (zs : List _). flat_map f done ++ zs) (append-nil (f (v y))))))
 
-pub whole : {X Y Z : Type 0} (f : Y → List Z) (v : X → Y) (start now : List Z) (xs : List X) (i : ℕ) → length xs ≤ i → now ≡ start ++ flat_map f (map v (take i xs)) → now ≡ start ++ flat_map f (map v xs)
-whole f v start now xs i h so_far = so_far ∙ ap (λ (ys : List _). start ++ flat_map f (map v ys)) (take_all xs i h)
+pub whole : {X Z : Type 0} (f : List X → List Z) (start now : List Z) (xs : List X) (i : ℕ) → length xs ≤ i → now ≡ start ++ f (take i xs) → now ≡ start ++ f xs
+whole f start now xs i h so_far = so_far ∙ ap (λ (ys : List _). start ++ f ys) (take_all xs i h)
 
 -- one of each
 pub mapped : {X Y Z : Type 0} (f : Y → Z) (v : X → Y) (start before after : List Z) (xs : List X) (i : ℕ) (y : X) → i < length xs → y ≡ get_or xs i y → before ≡ start ++ map f (map v (take i xs)) → after ≡ before ++ f (v y) ∷ []
@@ -27,9 +27,6 @@ mapped f v start before after xs i y lt is so_far added =
     let done = map v (take i xs) in
     then_added start before after (map f done) (f (v y) ∷ []) (map f (map v (take (i + 1) xs))) so_far added
     (sym (ap (map f) (take_at v xs i y lt is) ∙ map-append f done (v y ∷ [])))
-
-pub all_mapped : {X Y Z : Type 0} (f : Y → Z) (v : X → Y) (start now : List Z) (xs : List X) (i : ℕ) → length xs ≤ i → now ≡ start ++ map f (map v (take i xs)) → now ≡ start ++ map f (map v xs)
-all_mapped f v start now xs i h so_far = so_far ∙ ap (λ (ys : List _). start ++ map f (map v ys)) (take_all xs i h)
 
 pub dropped : {X : Type 0} (xs : List X) (i : ℕ) → length xs ≤ i → drop i xs ≡ []
 dropped [] zero h = refl

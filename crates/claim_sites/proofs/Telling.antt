@@ -1,5 +1,5 @@
 -- What statements tell one after the other, each of which knows what those before it declare.
-use Rattle.std.proofs.Common.{◌≡◌, ℕ, refl, sym, ◌∙◌, ap, append-nil, append_assoc, List, [], ◌∷◌, ◌++◌}
+use Rattle.std.proofs.Common.{◌≡◌, ℕ, ◌-◌, ◌≤◌, refl, sym, ◌∙◌, ap, append-nil, append_assoc, List, [], ◌∷◌, ◌++◌, drop, length, arith}
 use Rattle.std.specs.Prelude.{flat_map}
 use Rattle.c_syntax.specs.Ghosts as g
 use Rattle.c_syntax.specs.Ghosts.{GStm}
@@ -11,6 +11,7 @@ use Rattle.c_types.specs.Pieces as pieces
 use Rattle.typed_program.specs.Numbers.{Around}
 use Rattle.typed_program.specs.Sites.{Told, says, invariants_say, ghost_tells, ghosts_tell, tells, all_tell}
 use Rattle.typed_program.specs.Statements.{known_behind, known_behind_ghost}
+use Rattle.typing_rules.proofs.Sequences.{Grows, kept, longer}
 use Rattle.typing_rules.specs.Views.{Fixed, within, behind, behind_all, behind_ghost, behind_ghosts}
 use Rattle.claim_sites.specs.Views.{at}
 
@@ -21,6 +22,16 @@ says_one a x = says a x.property
 pub says_each : (a : Around) (xs : List Inv) → invariants_say a xs ≡ flat_map (says_one a) xs
 says_each a [] = refl
 says_each a (x ∷ xs) = ap (λ (ts : List Told). says a x.property ++ ts) (says_each a xs)
+
+-- ---- the variables that are known
+
+-- at least as many are known behind statements as before them
+pub room : (vs ws us : List Variable) (count : ℕ) → ws ≡ us → Grows vs us → count ≡ length vs → count ≤ length ws
+room vs ws us count now grown counted = let most = longer vs us grown in let long = ap length now in omega (arith, most, long, counted)
+
+-- and those are known again when the others are forgotten
+pub back : (vs ws us after : List Variable) (count : ℕ) → ws ≡ us → Grows vs us → count ≡ length vs → after ≡ drop (length ws - count) ws → after ≡ vs
+back vs ws us after count now grown counted forgotten = forgotten ∙ (ap (λ (n : ℕ). drop (length ws - n) ws) counted ∙ kept vs ws (grown.0, now ∙ grown.1))
 
 -- ---- ghost statements
 

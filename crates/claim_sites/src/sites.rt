@@ -4,10 +4,10 @@ ghost use Rattle.std.specs.Prelude.{◌≡◌, ◌++◌, ◌∷◌, [], map, IfO
 ghost use Rattle.std.specs.List.{list_any};
 ghost use Rattle.c_syntax.specs.Views as view;
 ghost use Rattle.c_types.specs.Trees as trees;
+ghost use Rattle.c_types.specs.Types.{kind as kind_at};
 ghost use Rattle.code_typing.specs.Names.{texts};
 ghost use Rattle.code_typing.specs.Views.{around as here};
 ghost use Rattle.expr_rules.specs.Views.{maybe_kind};
-ghost use Rattle.c_types.specs.Types.{kind as kind_at};
 ghost use Rattle.typed_program.specs.Codes.{code};
 ghost use Rattle.typed_program.specs.Sites as spec;
 ghost use Rattle.typed_program.specs.Trees as t;

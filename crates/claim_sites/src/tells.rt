@@ -36,7 +36,7 @@ where
     requires { quantified none.now ≡ [] }
     ensures { here result ≡ at (fixed around.entry) (known variables.now) (texts places.now.names.items) }
 {
-    // the scope's variables are said again: what `context` promises doesn't tell which of them are a quantifier's
+    // the variables are said again: what `context` promises doesn't tell which are a quantifier's
     let context = around.context(variables, none);
     Around {
         context: Context {

@@ -1,4 +1,4 @@
-use Rattle.std.proofs.Common.{◌≡◌, ℕ, ◌≤◌, ◌-◌, ◌++◌, refl, sym, ap, ◌∙◌, subst, append-nil, List, Some, map, take, drop, length, arith}
+use Rattle.std.proofs.Common.{◌≡◌, ◌++◌, refl, sym, ap, ◌∙◌, subst, append-nil, List, Some, map, take, arith}
 use Rattle.std.specs.Prelude.{OnOk}
 use Rattle.std.specs.Option.{option_map}
 use Rattle.c_syntax.specs.declared.ghosts.GhostStmt.{GhostStmt}
@@ -8,14 +8,14 @@ use Rattle.c_syntax.specs.Views as view
 use Rattle.c_types.specs.Contexts.{Variable}
 use Rattle.code_typing.specs.Names.{texts}
 use Rattle.declared_names.specs.Scopes.{known}
-use Rattle.expr_rules.proofs.Rows.{take_at, take_all}
+use Rattle.expr_rules.proofs.Rows.{take_at}
 use Rattle.typed_program.specs.Numbers.{Around}
 use Rattle.typed_program.specs.Sites.{Told, made, ghost_tells, ghosts_tell}
 use Rattle.typing_rules.specs.Views.{fixed, behind_ghost, behind_ghosts}
-use Rattle.typing_rules.proofs.Sequences.{Grows, kept, longer, grows_ghosts, ghost_block, behind_ghosts_more}
+use Rattle.typing_rules.proofs.Sequences.{grows_ghosts, ghost_block, behind_ghosts_more}
 use Rattle.claim_sites.specs.Views.{told, at}
-use Rattle.claim_sites.proofs.Added.{then_added}
-use Rattle.claim_sites.proofs.Telling.{ghosts_more}
+use Rattle.claim_sites.proofs.Added.{then_added, whole}
+use Rattle.claim_sites.proofs.Telling.{ghosts_more, room, back}
 use Rattle.claim_sites.proofs.tells.+ghosts.Goals as goal
 
 pub ghost_tells-returns-in-Block-clause-told : goal.ghost_tells-returns-in-Block-clause-told
@@ -65,21 +65,15 @@ pub ghosts_tell-keep-requires : goal.ghosts_tell-keep-requires
 ghosts_tell-keep-requires t c =
     let vs0 = known c.args.variables.now in
     let done = map view.ghost (take c.loop-x.x-index c.args.all.now) in
-    let long : length (known c.loop-x.variables) ≡ length (behind_ghosts done vs0) = ap length c.loop-x.invariant.1 in
-    let least : length vs0 ≤ length (behind_ghosts done vs0) = longer vs0 (behind_ghosts done vs0) (grows_ghosts done vs0) in
-    let count : c.count-count.result ≡ length vs0 = c.count-count.ensures in
-    omega arith
+    room vs0 (known c.loop-x.variables) (behind_ghosts done vs0) c.count-count.result c.loop-x.invariant.1 (grows_ghosts done vs0) c.count-count.ensures
 
 pub ghosts_tell-returns-clause-told : goal.ghosts_tell-returns-clause-told
 ghosts_tell-returns-clause-told t c =
     let a = at (fixed c.args.around) (known c.args.variables.now) (texts c.args.places.now.names.items) in
-    c.loop-x.invariant.0 ∙ ap (λ (xs : List GhostStmt). map told c.args.so_far.now.items ++ ghosts_tell a c.args.function (ghosts_of (map view.ghost xs))) (take_all c.args.all.now c.loop-x.x-index (omega arith))
+    whole (λ (ss : List GhostStmt). ghosts_tell a c.args.function (ghosts_of (map view.ghost ss))) (map told c.args.so_far.now.items) (map told c.loop-x.so_far.items) c.args.all.now c.loop-x.x-index (omega arith) c.loop-x.invariant.0
 
 pub ghosts_tell-returns-clause-kept : goal.ghosts_tell-returns-clause-kept
 ghosts_tell-returns-clause-kept t c =
     let vs0 = known c.args.variables.now in
-    let ws = known c.loop-x.variables in
     let done = map view.ghost (take c.loop-x.x-index c.args.all.now) in
-    let grown = grows_ghosts done vs0 in
-    let now : Grows vs0 ws = (grown.0, c.loop-x.invariant.1 ∙ grown.1) in
-    c.keep.ensures ∙ (ap (λ (n : ℕ). drop (length ws - n) ws) c.count-count.ensures ∙ kept vs0 ws now)
+    back vs0 (known c.loop-x.variables) (behind_ghosts done vs0) _ c.count-count.result c.loop-x.invariant.1 (grows_ghosts done vs0) c.count-count.ensures c.keep.ensures

@@ -1,4 +1,4 @@
-use Rattle.std.proofs.Common.{◌≡◌, ℕ, ◌≤◌, ◌-◌, ◌++◌, refl, sym, ap, ◌∙◌, subst, append-nil, List, map, take, drop, length, arith}
+use Rattle.std.proofs.Common.{◌≡◌, ◌++◌, refl, sym, ap, ◌∙◌, subst, append-nil, List, map, take, arith}
 use Rattle.std.specs.Prelude.{OnOk}
 use Rattle.c_syntax.specs.declared.statements.Stmt.{Stmt}
 use Rattle.c_syntax.specs.Grammar.{stms_of}
@@ -7,14 +7,14 @@ use Rattle.c_syntax.specs.Views as view
 use Rattle.c_types.specs.Contexts.{Variable}
 use Rattle.code_typing.specs.Names.{texts}
 use Rattle.declared_names.specs.Scopes.{known}
-use Rattle.expr_rules.proofs.Rows.{take_at, take_all}
+use Rattle.expr_rules.proofs.Rows.{take_at}
 use Rattle.typed_program.specs.Numbers.{Around}
 use Rattle.typed_program.specs.Sites.{Told, says, tells, all_tell}
 use Rattle.typing_rules.specs.Views.{fixed, behind, behind_all}
-use Rattle.typing_rules.proofs.Sequences.{Grows, kept, longer, grows_all, block_stm, unwrapping_stm, atomic_stm, behind_all_more}
+use Rattle.typing_rules.proofs.Sequences.{grows_all, block_stm, unwrapping_stm, atomic_stm, behind_all_more}
 use Rattle.claim_sites.specs.Views.{told, at}
-use Rattle.claim_sites.proofs.Added.{then_added}
-use Rattle.claim_sites.proofs.Telling.{statements_more}
+use Rattle.claim_sites.proofs.Added.{then_added, whole}
+use Rattle.claim_sites.proofs.Telling.{statements_more, room, back}
 use Rattle.claim_sites.proofs.tells.+statements.Goals as goal
 
 pub tells-returns-in-Block-clause-told : goal.tells-returns-in-Block-clause-told
@@ -72,21 +72,15 @@ pub all_tell-keep-requires : goal.all_tell-keep-requires
 all_tell-keep-requires t c =
     let vs0 = known c.args.variables.now in
     let done = map view.stm (take c.loop-x.x-index c.args.all.now) in
-    let long : length (known c.loop-x.variables) ≡ length (behind_all done vs0) = ap length c.loop-x.invariant.1 in
-    let least : length vs0 ≤ length (behind_all done vs0) = longer vs0 (behind_all done vs0) (grows_all done vs0) in
-    let count : c.count-count.result ≡ length vs0 = c.count-count.ensures in
-    omega arith
+    room vs0 (known c.loop-x.variables) (behind_all done vs0) c.count-count.result c.loop-x.invariant.1 (grows_all done vs0) c.count-count.ensures
 
 pub all_tell-returns-clause-told : goal.all_tell-returns-clause-told
 all_tell-returns-clause-told t c =
     let a = at (fixed c.args.around) (known c.args.variables.now) (texts c.args.places.now.names.items) in
-    c.loop-x.invariant.0 ∙ ap (λ (xs : List Stmt). map told c.args.so_far.now.items ++ all_tell a c.args.function (stms_of (map view.stm xs))) (take_all c.args.all.now c.loop-x.x-index (omega arith))
+    whole (λ (ss : List Stmt). all_tell a c.args.function (stms_of (map view.stm ss))) (map told c.args.so_far.now.items) (map told c.loop-x.so_far.items) c.args.all.now c.loop-x.x-index (omega arith) c.loop-x.invariant.0
 
 pub all_tell-returns-clause-kept : goal.all_tell-returns-clause-kept
 all_tell-returns-clause-kept t c =
     let vs0 = known c.args.variables.now in
-    let ws = known c.loop-x.variables in
     let done = map view.stm (take c.loop-x.x-index c.args.all.now) in
-    let grown = grows_all done vs0 in
-    let now : Grows vs0 ws = (grown.0, c.loop-x.invariant.1 ∙ grown.1) in
-    c.keep.ensures ∙ (ap (λ (n : ℕ). drop (length ws - n) ws) c.count-count.ensures ∙ kept vs0 ws now)
+    back vs0 (known c.loop-x.variables) (behind_all done vs0) _ c.count-count.result c.loop-x.invariant.1 (grows_all done vs0) c.count-count.ensures c.keep.ensures

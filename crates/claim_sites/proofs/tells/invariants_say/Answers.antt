@@ -1,4 +1,6 @@
 use Rattle.std.proofs.Common.{◌++◌, ap, sym, ◌∙◌, List, map, arith}
+use Rattle.std.specs.Prelude.{flat_map}
+use Rattle.c_syntax.specs.declared.statements.Invariant.{Invariant}
 use Rattle.c_syntax.specs.Views as view
 use Rattle.code_typing.specs.Views.{around as here}
 use Rattle.typed_program.specs.Sites.{Told}
@@ -14,5 +16,5 @@ loop-x-preserved c =
 pub returns : goal.returns
 returns c =
     let before = map told c.args.so_far.now.items in
-    whole (says_one (here c.args.around)) view.invariant before (map told c.loop-x.so_far.items) c.args.all.now c.loop-x.x-index (omega arith) c.loop-x.invariant
+    whole (λ (xs : List Invariant). flat_map (says_one (here c.args.around)) (map view.invariant xs)) before (map told c.loop-x.so_far.items) c.args.all.now c.loop-x.x-index (omega arith) c.loop-x.invariant
     ∙ ap (λ (ts : List Told). before ++ ts) (sym (says_each (here c.args.around) (map view.invariant c.args.all.now)))

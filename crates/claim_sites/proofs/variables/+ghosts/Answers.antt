@@ -1,5 +1,6 @@
 use Rattle.std.proofs.Common.{◌≡◌, sym, ap, subst, ◌∙◌, ◌++◌, List, map, arith}
-use Rattle.std.specs.Prelude.{OnOk}
+use Rattle.std.specs.Prelude.{OnOk, flat_map}
+use Rattle.c_syntax.specs.declared.ghosts.GhostStmt.{GhostStmt}
 use Rattle.c_syntax.specs.Views as view
 use Rattle.c_types.specs.Contexts.{Variable}
 use Rattle.declared_names.specs.Scopes.{variable}
@@ -21,4 +22,4 @@ add_ghosts-loop-x-preserved t c =
     more ghost_declared view.ghost (map variable c.args.declared.now.items) (map variable c.loop-x.declared.items) _ c.args.all.now c.loop-x.x-index c.x-item.result c.loop-x-test.true c.x-item.is c.loop-x.invariant c.in_ok-add_ghost.ensures
 
 pub add_ghosts-returns : goal.add_ghosts-returns
-add_ghosts-returns t c = whole ghost_declared view.ghost (map variable c.args.declared.now.items) (map variable c.loop-x.declared.items) c.args.all.now c.loop-x.x-index (omega arith) c.loop-x.invariant
+add_ghosts-returns t c = whole (λ (ss : List GhostStmt). flat_map ghost_declared (map view.ghost ss)) (map variable c.args.declared.now.items) (map variable c.loop-x.declared.items) c.args.all.now c.loop-x.x-index (omega arith) c.loop-x.invariant

@@ -1,5 +1,6 @@
 use Rattle.std.proofs.Common.{◌≡◌, refl, sym, ap, subst, ◌∙◌, ◌++◌, List, map, arith}
-use Rattle.std.specs.Prelude.{OnOk}
+use Rattle.std.specs.Prelude.{OnOk, flat_map}
+use Rattle.c_syntax.specs.declared.statements.Stmt.{Stmt}
 use Rattle.c_syntax.specs.Views as view
 use Rattle.c_types.specs.Contexts.{Variable}
 use Rattle.declared_names.specs.Scopes.{variable}
@@ -35,4 +36,4 @@ add_statements-loop-x-preserved t c =
     more declared view.stm (map variable c.args.declared.now.items) (map variable c.loop-x.declared.items) _ c.args.all.now c.loop-x.x-index c.x-item.result c.loop-x-test.true c.x-item.is c.loop-x.invariant c.in_ok-add_statement.ensures
 
 pub add_statements-returns : goal.add_statements-returns
-add_statements-returns t c = whole declared view.stm (map variable c.args.declared.now.items) (map variable c.loop-x.declared.items) c.args.all.now c.loop-x.x-index (omega arith) c.loop-x.invariant
+add_statements-returns t c = whole (λ (ss : List Stmt). flat_map declared (map view.stm ss)) (map variable c.args.declared.now.items) (map variable c.loop-x.declared.items) c.args.all.now c.loop-x.x-index (omega arith) c.loop-x.invariant
