@@ -1,0 +1,4 @@
+pub mod Added
+pub mod Declared
+pub mod Standing
+pub mod Telling
