@@ -23,10 +23,11 @@ numbered_more : (k : Numbering) (xs : List t.Spec) (y : t.Spec) → map (numbere
 numbered_more k [] y = refl
 numbered_more k (x ∷ xs) y = ap (λ (zs : List t.Spec). numbered k.shapes k.sorts x ∷ zs) (numbered_more k xs y)
 
-abbrev several : List t.Spec → ℕ → Several
+-- several in a row, which are the same part by part
+abbrev pub several : List t.Spec → ℕ → Several
 several xs n = record { specs = xs; next = n }
 
-alike : {xs ys : List t.Spec} {m n : ℕ} → xs ≡ ys → m ≡ n → several xs m ≡ several ys n
+pub alike : {xs ys : List t.Spec} {m n : ℕ} → xs ≡ ys → m ≡ n → several xs m ≡ several ys n
 alike p q = λ i. several (p i) (q i)
 
 pub no_invariants : (k : Numbering) (a : Around) (n : ℕ) → several [] n ≡ said_invariants k a n []

@@ -18,13 +18,8 @@ use Rattle.typed_program.specs.Tables.{invariants_of, each_invariant, around_str
 use Rattle.typed_program.specs.Trees as t
 use Rattle.clause_typing.specs.Numberings.{Numbering, said}
 use Rattle.clause_typing.specs.Typing.{struct_invariants}
+use Rattle.clause_typing.proofs.Invariants.{alike}
 use Rattle.clause_typing.specs.Members.{with_member, member_formulas, member_mine, has_fixed_set, struct_of, numbered_struct}
-
-abbrev several : List t.Spec → ℕ → Several
-several xs n = record { specs = xs; next = n }
-
-alike : {xs ys : List t.Spec} {m n : ℕ} → xs ≡ ys → m ≡ n → several xs m ≡ several ys n
-alike p q = λ i. several (p i) (q i)
 
 -- ---- invariants
 
