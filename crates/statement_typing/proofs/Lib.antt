@@ -1,0 +1,10 @@
+pub mod Counting
+pub mod Forms
+pub mod GhostForms
+pub mod InnerForms
+pub mod Sequences
+pub mod Scopes
+pub mod StatementSteps
+pub mod Steps
+pub mod Sums
+pub mod Vectors
