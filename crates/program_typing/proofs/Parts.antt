@@ -1,7 +1,6 @@
 -- Functions out of their parts.
 use Rattle.std.proofs.Common.{◌≡◌, ℕ, ◌+◌, refl, sym, ap, ◌∙◌, List, [], ◌∷◌, map, length, Option, Some, None, Bor}
-use Rattle.std.specs.Option.{option_map, option_copied}
-use Rattle.c_syntax.specs.declared.expressions.ValueType.{ValueType}
+use Rattle.std.specs.Option.{option_map}
 use Rattle.c_syntax.specs.declared.statements.Stmt as trees
 use Rattle.c_syntax.specs.declared.expressions.Identifier.{Identifier}
 use Rattle.c_syntax.specs.Expressions.{Id, Ty}
@@ -26,10 +25,6 @@ use Rattle.typed_program.specs.Variables.{variables}
 use Rattle.typing_rules.proofs.Items.{function_context}
 use Rattle.typing_rules.specs.Views.{Fixed}
 use Rattle.program_typing.specs.Functions.{function_fixed, function_known, function, variable_sort, function_of, numbered}
-
-pub fused : (o : Option (Bor ValueType)) → option_map (λ t. view.ty t.now) o ≡ option_map view.ty (option_copied o)
-fused None = refl
-fused (Some x) = refl
 
 pub stms_are : (xs : List trees.Stmt) → stms_of (map view.stm xs) ≡ view.stms xs
 stms_are [] = refl
