@@ -1,0 +1,4 @@
+pub mod Parts
+pub mod Programs
+pub mod Steps
+pub mod Walks
