@@ -35,7 +35,7 @@ use Rattle.method.specs.Text.{body_checks}
 use Rattle.method.specs.Machine.{State, Event, step, run_overflow, run, begin, callee}
 use Rattle.method.specs.Trace.{Memory, vec, box, Line, trace, event, Look, seen, look, label}
 use Rattle.method.specs.Labels.{labels, program_labels}
-use Rattle.method.specs.Typing.{stmt_ok, of_content, is_conjunct, site_ok}
+use Rattle.method.specs.Typing.{stmt_ok, of_content, site_ok}
 
 module _ (m : Memory) where
   abbrev pub InitializeLock_0 : Stmt
@@ -143,7 +143,7 @@ module _ (m : Memory) where
   unfolding step act in_type same_ref put is_in inv_holds hand_over in_stable_set
   leaves = refl
 
-  pub typed : every (λ s. every of_content s.invariants.items && every of_content s.mine.items) program.structs.items && (every (λ s. is_conjunct s.conjunct) program.shapes.items && every (λ s. site_ok program (slice_get program.functions.items s.function) s) program.sites.items) ≡ true
+  pub typed : every (λ s. every of_content s.invariants.items && every of_content s.mine.items) program.structs.items && every (λ s. site_ok program (slice_get program.functions.items s.function) s) program.sites.items ≡ true
   typed = refl
 
   pub typed_InitializeLock : every (stmt_ok program fn_InitializeLock 0) body_InitializeLock ≡ true

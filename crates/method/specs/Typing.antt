@@ -425,14 +425,20 @@ hole_named is OfResult = false
 abbrev pub names_all : ClaimSite → Bool
 names_all s = every (claimed_named s.variables.items) s.claimed.items && every (λ c. every (hole_named s.variables.items) c.holes.items) s.conjuncts.items
 
+-- the shape stands in the table, and its conjunct reads what a claim's may
+abbrev pub shape_ok : Option Shape → Bool
+shape_ok None = false
+shape_ok (Some s) = is_conjunct s.conjunct
+
 abbrev pub site_ok : Program → Option FunctionInfo → ClaimSite → Bool
 site_ok p None s = false
-site_ok p (Some f) s = names_all s && every (claimed_ok p f) s.claimed.items && every (λ i. nat_lt i (length f.variables.items)) s.variables.items
+site_ok p (Some f) s =
+    names_all s && every (claimed_ok p f) s.claimed.items && every (λ i. nat_lt i (length f.variables.items)) s.variables.items && every (λ c. shape_ok (slice_get p.shapes.items c.shape)) s.conjuncts.items
 
 abbrev pub is_field_range : Program → ℕ → ℕ → StructInfo → Bool
 is_field_range p ty f s = nat_le s.first_field f && nat_lt f (s.first_field + s.fields)
 
--- The program is one that the typing may leave.
+-- The program is one that the typing may leave. Of shapes that no claim site has it asks nothing: `\claims(c, \mine(p))` in a type's invariant has one that speaks of an owned set, and no claim is made so.
 pub record WellTyped (p : Program) : Type 0 where
   pub main : (k : ℕ) → p.main ≡ k → IsTrue (nat_lt k (length p.functions.items))
   pub parameters : (k : ℕ) (f : FunctionInfo) → slice_get p.functions.items k ≡ Some f → IsTrue (nat_le f.parameters (length f.variables.items))
@@ -440,5 +446,4 @@ pub record WellTyped (p : Program) : Type 0 where
   pub fields : (ty f : ℕ) (s : StructInfo) (i : FieldInfo) → struct_of p ty ≡ Some s → slice_get p.fields.items f ≡ Some i → (i.of == ty) ≡ is_field_range p ty f s
   pub field_structs : (f : ℕ) (i : FieldInfo) → slice_get p.fields.items f ≡ Some i → IsTrue (is_struct p i.of)
   pub invariants : (ty : ℕ) (s : StructInfo) → struct_of p ty ≡ Some s → IsTrue (every of_content s.invariants.items) × IsTrue (every of_content s.mine.items)
-  pub shapes : (n : ℕ) (s : Shape) → slice_get p.shapes.items n ≡ Some s → IsTrue (is_conjunct s.conjunct)
   pub sites : (n : ℕ) (s : ClaimSite) → slice_get p.sites.items n ≡ Some s → IsTrue (site_ok p (slice_get p.functions.items s.function) s)
