@@ -1,9 +1,10 @@
 //! A source's typed program, or the first typing rule that it breaks.
 
-ghost use Rattle.std.specs.Prelude.{◌≡◌, None, IfOk, IfErr, OnOk};
+ghost use Rattle.std.specs.Prelude.{◌≡◌, ℕ, List, None, IfOk, IfErr, OnOk};
+ghost use Rattle.c_source.specs.Sources.{IsText};
 ghost use Rattle.c_syntax.specs.Views.{items_of};
 ghost use Rattle.c_types.specs.First as first;
-ghost use Rattle.source_typing.specs.Typed.{IsTyped, IsTypeFault};
+ghost use Rattle.source_typing.specs.Typed.{IsProgramOf, IsTyped, IsTypeFault, OneProgram};
 ghost use Rattle.typed_program.specs.Tables.{program};
 ghost use Rattle.typed_program.specs.Views as seen;
 
@@ -45,9 +46,16 @@ fn tables_of(alloc: Global, tree: &Tree) -> Result<Program, TypeFault>
     }
 }
 
-/// The typed program of a source that breaks no typing rule; else the first rule that it breaks.
+/// Bytes read as at most one program.
+pub fn reading_law()
+    ensures one_program { OneProgram }
+{}
+
+/// The typed program of a source that breaks no typing rule; else the first rule that it breaks. Where the tree is that of a
+/// text, the program is the one that the text reads as, and well formed.
 pub fn type_program(alloc: Global, tree: &Tree) -> Result<Program, TypeFault>
     ensures typed { IfOk result (λ p. IsTyped (items_of tree.now) tree.now.end (seen.program p)) }
+    ensures of_text { (bytes : List ℕ) → IsText bytes (items_of tree.now) tree.now.end → IfOk result (IsProgramOf bytes) }
     ensures fault { IfErr result (IsTypeFault (items_of tree.now) tree.now.end) }
 {
     match unbroken(alloc, tree) {

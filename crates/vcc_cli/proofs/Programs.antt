@@ -1,16 +1,13 @@
 -- From trees to programs.
-use Rattle.std.proofs.Common.{◌≡◌, ℕ, ◌<◌, ◌≤◌, nat_le, Bool, true, false, cond, List, [], ◌∷◌, length, map, Option, Some, None, refl, ap, sym, ◌∙◌, subst, arith}
+use Rattle.std.proofs.Common.{◌≡◌, ℕ, ◌<◌, ◌≤◌, nat_le, Bool, true, false, cond, List, [], ◌∷◌, length, Option, Some, None, refl, ap, sym, ◌∙◌, subst, arith}
 use Rattle.ebnf.specs.Tools.{le_true, true_le}
 use Rattle.c_syntax.specs.declared.token.Span.{Span}
-use Rattle.c_syntax.specs.declared.items.Item.{Item as HeldItem}
-use Rattle.c_syntax.specs.declared.items.Tree.{Tree}
-use Rattle.c_syntax.specs.Views.{item, items_of}
 use Rattle.c_syntax.specs.Items as i
 use Rattle.c_syntax.specs.Items.{Item, Param}
 use Rattle.c_types.specs.First.{IsWellTyped, first_broken}
-use Rattle.c_types.specs.FirstLaws.{first_is_first, none_broken}
+use Rattle.c_types.specs.FirstLaws.{first_is_first}
 use Rattle.expr_rules.specs.declared.found.Broken.{Broken}
-use Rattle.expr_rules.specs.Views.{maybe_broken, rule}
+use Rattle.expr_rules.specs.Views.{broken, rule}
 use Rattle.c_source.specs.Sources.{IsText, IsWithinLimits}
 use Rattle.c_source.proofs.Unique.{one_text}
 use Rattle.first_form.specs.Tree.{Prog, stms_count}
@@ -31,23 +28,9 @@ few_is : (out : Option Prog) (p : Prog) → out ≡ Some p → stms_count p.body
 few_is None p e le = absurd cc
 few_is (Some q) p e le = let same : q ≡ p = cc in ap (λ (b : Bool). cond b (Some q) None) (true_le (stms_count q.body) 200 (subst (λ (r : Prog). stms_count r.body ≤ 200) (sym same) le)) ∙ e
 
--- what is found of a tree's items, by another name
-found_of : (tree : Tree) (held : List HeldItem) (found : Option Broken) → held ≡ tree.items.items → maybe_broken found ≡ first_broken (map item held) tree.end → maybe_broken found ≡ first_broken (items_of tree) tree.end
-found_of tree held found same e = e ∙ ap (λ (xs : List HeldItem). first_broken (map item xs) tree.end) same
-
--- a text whose first broken rule is found
-pub breaks_first : (bytes : List ℕ) (tree : Tree) (held : List HeldItem) (found : Option Broken) (b : Broken) (text : IsText bytes (items_of tree) tree.end) → IsWithinLimits text → held ≡ tree.items.items → found ≡ Some b → maybe_broken found ≡ first_broken (map item held) tree.end → BreaksFirst bytes b
-breaks_first bytes tree held found b text within same is e = record {
-  items = items_of tree;
-  end = tree.end;
-  text = text;
-  within = within;
-  first = first_is_first (items_of tree) tree.end (rule b.rule) b.span (sym (found_of tree held found same e) ∙ ap maybe_broken is);
-}
-
--- items that break no rule
-pub breaks_none : (tree : Tree) (held : List HeldItem) (found : Option Broken) → held ≡ tree.items.items → found ≡ None → maybe_broken found ≡ first_broken (map item held) tree.end → IsWellTyped (items_of tree) tree.end
-breaks_none tree held found same is e = none_broken (items_of tree) tree.end (sym (found_of tree held found same e) ∙ ap maybe_broken is)
+-- a text whose first broken rule is this one
+pub breaks_first : (bytes : List ℕ) (items : List Item) (end : Span) (b : Broken) (text : IsText bytes items end) → IsWithinLimits text → first_broken items end ≡ Some (broken b) → BreaksFirst bytes b
+breaks_first bytes items end b text within e = record { items = items; end = end; text = text; within = within; first = first_is_first items end (rule b.rule) b.span e }
 
 -- a program that a text's items are is the text's
 pub form_of : (bytes : List ℕ) (items : List Item) (end : Span) (text : IsText bytes items end) (p : Prog) → IsWithinLimits text → IsWellTyped items end → length bytes ≤ 65536 → few (program_of items) ≡ Some p → IsFirstForm bytes p

@@ -16,7 +16,7 @@ use c_syntax::items::Tree;
 use first_form::tree::Program;
 use first_program::fault::FormFault;
 use first_program::program_of;
-use program_rules::program::first_broken;
+use source_typing::typing::{TypeFault, type_program};
 use std::alloc::Global;
 use vcc_base::limit::Limit;
 
@@ -44,10 +44,14 @@ fn well_typed<'a>(alloc: Global, tree: &Tree) -> Result<(), Refusal<'a>>
     ensures typed { OnOk result (IsWellTyped (items_of tree.now) tree.now.end) }
     ensures refused { (bytes : List ℕ) (text : IsText bytes (items_of tree.now) tree.now.end) → IsWithinLimits text → IfErr result (IsSourceRefusalOrMemory bytes) }
 {
-    match first_broken(alloc, &tree.items, tree.end) {
-        Ok(None) => Ok(()),
-        Ok(Some(broken)) => Err(Refusal::BreaksRule(broken)),
-        Err(_) => Err(Refusal::OutOfMemory),
+    match type_program(alloc, tree) {
+        Ok(tables) => {
+            // Nothing is judged by them yet.
+            drop(tables);
+            Ok(())
+        }
+        Err(TypeFault::Rule(broken)) => Err(Refusal::BreaksRule(broken)),
+        Err(TypeFault::OutOfMemory) => Err(Refusal::OutOfMemory),
     }
 }
 

@@ -1,9 +1,13 @@
-use Rattle.vcc_cli.proofs.Programs.{breaks_first, breaks_none}
+use Rattle.c_syntax.specs.Views.{items_of}
+use Rattle.c_types.specs.FirstLaws.{none_broken}
+use Rattle.std.proofs.Common.{subst}
+use Rattle.source_typing.specs.Typed.{IsTypeFault}
+use Rattle.vcc_cli.proofs.Programs.{breaks_first}
 use Rattle.vcc_cli.proofs.program.well_typed.Goals as goal
 
-pub returns-in-Ok-None-clause-typed : goal.returns-in-Ok-None-clause-typed
-returns-in-Ok-None-clause-typed c = breaks_none c.args.tree.now c.deref.result.now c.in-Ok-None.field-0 c.deref.ensures.value c.in-Ok-None.field-0-is c.in-Ok-None.ensures
+pub returns-in-Ok-clause-typed : goal.returns-in-Ok-clause-typed
+returns-in-Ok-clause-typed c = none_broken (items_of c.args.tree.now) c.args.tree.now.end c.in-Ok.ensures.typed.unbroken
 
-pub returns-in-Ok-Some-clause-refused : goal.returns-in-Ok-Some-clause-refused
-returns-in-Ok-Some-clause-refused c = λ bytes text within.
-    breaks_first bytes c.args.tree.now c.deref.result.now c.in-Ok-Some.field-0 c.in-Ok-Some.broken text within c.deref.ensures.value c.in-Ok-Some.field-0-is c.in-Ok-Some.ensures
+pub returns-in-Err-Rule-clause-refused : goal.returns-in-Err-Rule-clause-refused
+returns-in-Err-Rule-clause-refused c = λ bytes text within.
+    breaks_first bytes (items_of c.args.tree.now) c.args.tree.now.end c.in-Err-Rule.broken text within (subst (IsTypeFault (items_of c.args.tree.now) c.args.tree.now.end) c.in-Err-Rule.field-0-is c.in-Err-Rule.ensures.fault)

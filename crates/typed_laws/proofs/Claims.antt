@@ -1,0 +1,290 @@
+-- The claim sites of a program that breaks no rule are well formed.
+use Rattle.std.specs.Prelude.{ℕ, cond, unwrap_or, nat_lt, Bool, true, false, not, ◌&&◌, ◌||◌, List, [], ◌∷◌, ◌++◌, length, map, flat_map, Some, None, Contains, find, slice_get, is_some, bytes_eq, IsTrue}
+use Rattle.std.specs.List.{list_any}
+use Rattle.std.proofs.Common.{◌≡◌, refl, sym, ap, subst, ◌∙◌, inl, inr, arith}
+use Rattle.std.proofs.lemmas.Bool.{true≢false, lt-ltb, eq-eqb}
+use Rattle.std.proofs.lemmas.List.{length-map}
+use Rattle.std.proofs.lemmas.Option.{slice_get_within}
+use Rattle.std.proofs.lemmas.List.Elements.{Contains-append_right}
+use Rattle.std.proofs.lemmas.Slice.Eq.{bytes_eq-Decides}
+use Rattle.c_syntax.specs.declared.token.Span.{Span}
+use Rattle.c_syntax.specs.Expressions as e
+use Rattle.c_syntax.specs.Expressions.{Id, Ty, Exp}
+use Rattle.c_syntax.specs.Grammar.{first_place}
+use Rattle.c_syntax.specs.Items as i
+use Rattle.c_syntax.specs.Items.{FunctionTree, Item}
+use Rattle.object_types.specs.Sets.{every}
+use Rattle.method.specs.declared.program.DeclaredType.TheVariants as d
+use Rattle.method.specs.Typing.{Values, fits, hole_named, is_named}
+use Rattle.c_types.specs.Declarations.{same_name, functions}
+use Rattle.c_types.specs.Contexts as texts
+use Rattle.c_types.specs.Contexts.{Text, Scope, Variable, Context}
+use Rattle.c_types.specs.Types as kinds
+use Rattle.c_types.specs.Types.{Kind, converts, kind, find_variable, type_of_name}
+use Rattle.c_types.specs.Trees.{bare, mentions}
+use Rattle.c_types.specs.Places.{place_if, fails, fail_together}
+use Rattle.c_types.specs.Rules as r
+use Rattle.c_types.specs.Rules.{Rule}
+use Rattle.c_types.specs.Conversions.{as_reference}
+use Rattle.c_types.specs.Ownership.{may_be_claimed}
+use Rattle.c_types.specs.Pieces as pieces
+use Rattle.c_types.specs.Pieces.{Piece, Program, Function, NewClaim, Expression, struct_name, if_some, types_of, clause, expression, expressions, claim_property, in_function, item}
+use Rattle.c_types.specs.First.{IsWellTyped}
+use Rattle.c_types.specs.TypeLaws.{IsKnown, Quiet}
+use Rattle.typed_program.specs.Trees as t
+use Rattle.typed_program.specs.Trees.{Spec, Conjunct, Claimed, ClaimSite, FunctionInfo}
+use Rattle.typed_program.specs.Numbers.{Around, place_of, reference_type, struct_number}
+use Rattle.typed_program.specs.Codes.{code, integer_type}
+use Rattle.typed_program.specs.Annotations.{property}
+use Rattle.typed_program.specs.Variables.{parameter, variables, all_declared}
+use Rattle.typed_program.specs.Shapes.{holes, conjunct}
+use Rattle.typed_program.specs.Sites.{Site, Told, Says, Makes, named, type_of_claimed, claimed_bare, claimed, site, all_tell}
+use Rattle.typed_program.specs.Tables.{around_function, variable, function_sorts, clause_tells, sites_told, claim_site, shapes, program}
+use Rattle.tree_forms.specs.InForm as form
+use Rattle.tree_forms.specs.InForm.{is_code, all_code, is_spec, in_form, in_item}
+use Rattle.typed_laws.proofs.Tests.{claimed_ok, claimed_named, names_all, shape_ok, site_ok, values, test}
+use Rattle.typed_laws.proofs.Facts.{Tables, InCode, Numbered, Agrees, FunctionOf, runs}
+use Rattle.typed_laws.proofs.Goals.{TablesLaw, SitesLaw, CodeLaw, ClaimsLaw}
+use Rattle.typed_laws.proofs.SpecBasics.{both, never, every_map, every_member, contains_head, contains_tail, contains_cases, contains_none, to_flat_map, quiet_left, quiet_right, quiet_last, quiet_tail, quiet_head, quiet_part, not_placed, from_not, quiet_items}
+use Rattle.typed_laws.proofs.Conjuncts.{conjunct_passes, IsProperty, known_variable, name_itself, property_passes, holes_named}
+use Rattle.typed_laws.proofs.SpecSites.{Made, all_made}
+use Rattle.typed_laws.proofs.SpecNamed.{place_named, named_below, contains_map, in_names}
+use Rattle.typed_laws.proofs.SpecShapes.{told_shape, shape_passes}
+
+-- what stands at a function's beginning
+abbrev pub EntryLaw : Type 0
+EntryLaw = (items : List Item) (end : Span) → IsWellTyped items end → (k : ℕ) (info : FunctionInfo) (of : FunctionOf items k info) → InCode items info (around_function items of.tree)
+
+-- ---- lists
+
+flat_none : {A B : Type 0} (f : A → List B) (xs : List A) → flat_map f xs ≡ [] → (x : A) → Contains xs x → f x ≡ []
+flat_none f xs h x c = go (f x) refl
+  where
+    go : (ys : List _) → f x ≡ ys → f x ≡ []
+    go [] g = g
+    go (y ∷ ys) g = absurd (contains_none y (subst (λ zs. Contains zs y) h (to_flat_map f xs x y c (subst (λ zs. Contains zs y) (sym g) (contains_head y ys)))))
+
+-- all pass where each member does
+every_of : {A : Type 0} (test : A → Bool) (xs : List A) → ((x : A) → Contains xs x → IsTrue (test x)) → IsTrue (every test xs)
+every_of test [] f = refl
+every_of test (x ∷ xs) f = both (test x) (every test xs) (f x (contains_head x xs)) (every_of test xs (λ y c. f y (contains_tail x y xs c)))
+
+any_head : (test : Exp → Bool) (x : Exp) (xs : List Exp) → IsTrue (test x) → IsTrue (list_any test (x ∷ xs))
+any_head test x xs h = ap (λ b. b || list_any test xs) h
+
+any_tail : (test : Exp → Bool) (x : Exp) (xs : List Exp) → IsTrue (list_any test xs) → IsTrue (list_any test (x ∷ xs))
+any_tail test x xs h = go (test x)
+  where
+    go : (b : Bool) → IsTrue (b || list_any test xs)
+    go true = refl
+    go false = h
+
+any_member : (test : Exp → Bool) (xs : List Exp) (x : Exp) → Contains xs x → IsTrue (test x) → IsTrue (list_any test xs)
+any_member test [] x c h = absurd (contains_none x c)
+any_member test (y ∷ ys) x c h =
+    elim (contains_cases y x ys c) [
+      | inl g ↦ any_head test y ys (subst (λ z. IsTrue (test z)) (sym g) h)
+      | inr k ↦ any_tail test y ys (any_member test ys x k h)
+    ]
+
+four : (a b c d : Bool) → IsTrue a → IsTrue b → IsTrue c → IsTrue d → IsTrue (a && b && c && d)
+four true true true d h i j g = g
+four true true false d h i j g = never j
+four true false c d h i j g = never i
+four false b c d h i j g = never h
+
+-- ---- without brackets
+
+kind_bare : (here : Scope) (x : Exp) → kind here (bare x) ≡ kind here x
+kind_bare here (e.Group p x) = kind_bare here x
+kind_bare here _ = refl
+
+code_bare : (x : Exp) → IsTrue (is_code x) → IsTrue (is_code (bare x))
+code_bare (e.Group p x) h = code_bare x h
+code_bare (e.Number p n ty) h = h
+code_bare _ h = h
+
+mentions_bare : (y : Id) (x : Exp) → mentions y (bare x) ≡ mentions y x
+mentions_bare y (e.Group p x) = mentions_bare y x
+mentions_bare y _ = refl
+
+quiet_bare : (c : Context) (x : Exp) → Quiet (expression c x) → Quiet (expression c (bare x))
+quiet_bare c (e.Group p x) h = quiet_bare c x (quiet_left (expression c x) (Expression c (e.Group p x) ∷ []) h)
+quiet_bare c _ h = h
+
+found_is : {A : Type 0} (test : A → Bool) (xs : List A) (x : A) → find test xs ≡ Some x → Contains xs x × IsTrue (test x)
+found_is test [] x h = absurd (true≢false (sym (ap is_some h)))
+found_is test (y ∷ ys) x h = go (test y) refl h (found_is test ys x)
+  where
+    go : (b : Bool) → test y ≡ b → cond b (Some y) (find test ys) ≡ Some x → (find test ys ≡ Some x → Contains ys x × IsTrue (test x)) → Contains (y ∷ ys) x × IsTrue (test x)
+    go true e g more =
+        let same : y ≡ x = ap (λ o. unwrap_or o x) g in
+        (subst (Contains (y ∷ ys)) same (contains_head y ys), subst (λ z. IsTrue (test z)) same e)
+    go false e g more = let r = more g in (contains_tail y x ys r.0, r.1)
+
+-- ---- where a claim is made
+
+fits_claimed : (items : List Item) (k : Kind) (c : _) (v : Values) → Agrees items k c v → not (converts k kinds.Object) ≡ false → not (may_be_claimed k) ≡ false → IsTrue (fits v (reference_type items k))
+fits_claimed items kinds.Integer c v g h m = absurd (true≢false h)
+fits_claimed items kinds.Null c v g h m = subst (λ w. IsTrue (fits w d.Object)) (sym g) refl
+fits_claimed items (kinds.Pointer s) c v g h m = subst (λ w. IsTrue (fits w (d.Pointer (struct_number items s.name)))) (sym g) (eq-eqb (struct_number items s.name) (struct_number items s.name) refl)
+fits_claimed items kinds.Object c v g h m = subst (λ w. IsTrue (fits w d.Object)) (sym g) refl
+fits_claimed items kinds.Claim c v g h m = absurd (true≢false m)
+fits_claimed items kinds.OwnedSet c v g h m = absurd g
+fits_claimed items kinds.Void c v g h m = absurd g
+
+module _ (items : List Item) (p : t.Program) (f : FunctionInfo) (law : CodeLaw) (all : Tables items p) (a : Around) (here : InCode items f a) (c : Context) (same : c.scope ≡ a.context.scope) (in_ghost : c.text ≡ texts.GhostCode) where
+  -- a name is that of a variable of the function
+  name_known : (y : Id) → is_some (type_of_name c.scope y) ≡ true → (v : Variable) × (find_variable a.context.scope y ≡ Some v)
+  name_known y h = known_variable a.context.scope here.no_this y (subst (λ z. is_some (type_of_name z y) ≡ true) same h)
+
+  found_variable : (y : Id) (v : Variable) → find_variable a.context.scope y ≡ Some v → Numbered items f a.names v × (v.name.name ≡ y.name)
+  found_variable y v h =
+      let r = found_is (λ w. same_name w.name y) a.context.scope.variables v h in
+      (here.numbered v r.0, (bytes_eq-Decides v.name.name y.name).0 r.1)
+
+  number_below : (y : Id) (v : Variable) → find_variable a.context.scope y ≡ Some v → IsTrue (nat_lt (place_of (λ n. bytes_eq n y.name) a.names) (length f.variables))
+  number_below y v h =
+      let r = found_variable y v h in
+      let below = slice_get_within f.variables (place_of (λ n. bytes_eq n v.name.name) a.names) (variable items v) r.0 in
+      subst (λ m. IsTrue (nat_lt (place_of (λ n. bytes_eq n m) a.names) (length f.variables))) r.1 (lt-ltb (place_of (λ n. bytes_eq n v.name.name) a.names) (length f.variables) below)
+
+  -- a claimed object that is neither a name nor `NULL` has its type
+  other_ok : (z : Exp) → IsTrue (is_code z) → Quiet (expression c z) → fail_together converts (kind c.scope z) (Some kinds.Object) ≡ false → fails may_be_claimed (kind c.scope z) ≡ false → IsTrue (claimed_ok p f (t.ClaimedOther (code a z) (type_of_claimed a (kind a.context.scope z))))
+  other_ok z h quiet k m =
+      let r = law items p f all a here c same (subst (λ u. IsTrue (runs u)) (sym in_ghost) refl) z h quiet in
+      let kind_is : kind c.scope z ≡ Some r.0 = ap (λ u. kind u z) same ∙ r.2 in
+      let k2 : not (converts r.0 kinds.Object) ≡ false = subst (λ o. fail_together converts o (Some kinds.Object) ≡ false) kind_is k in
+      let m2 : not (may_be_claimed r.0) ≡ false = subst (λ o. fails may_be_claimed o ≡ false) kind_is m in
+      let fit : IsTrue (fits r.1 (reference_type a.context.scope.items r.0)) = subst (λ its. IsTrue (fits r.1 (reference_type its r.0))) (sym here.items_are) (fits_claimed items r.0 (integer_type a.context.scope z) r.1 r.5 k2 m2) in
+      subst (λ o. IsTrue (test (values p f (code a z)) (λ v. fits v (type_of_claimed a o)))) (sym r.2) (subst (λ o. IsTrue (test o (λ v. fits v (type_of_claimed a (Some r.0))))) (sym r.4) fit)
+
+  object_ok : (z : Exp) → IsTrue (is_code z) → Quiet (expression c z) → fail_together converts (kind c.scope z) (Some kinds.Object) ≡ false → fails may_be_claimed (kind c.scope z) ≡ false → IsTrue (claimed_ok p f (claimed_bare a z))
+  object_ok (e.Name y) h quiet k m =
+      let v = name_known y (from_not (is_some (type_of_name c.scope y)) (not_placed _ y.place (quiet_last [] (Expression c (e.Name y)) quiet r.Undeclared))) in
+      number_below y v.0 v.1
+  object_ok (e.Null q) h quiet k m = refl
+  object_ok z h quiet k m = other_ok z h quiet k m
+
+-- ---- a claim site
+
+function_item : (items : List Item) (h : FunctionTree) → Contains (functions items) h → Contains items (i.Function h)
+function_item [] h c = absurd (contains_none h c)
+function_item (i.Struct s ∷ items) h c = contains_tail (i.Struct s) (i.Function h) items (function_item items h c)
+function_item (i.Function u ∷ items) h c =
+    elim (contains_cases u h (functions items) c) [
+      | inl g ↦ subst (λ z. Contains (i.Function u ∷ items) (i.Function z)) g (contains_head (i.Function u) items)
+      | inr k ↦ contains_tail (i.Function u) (i.Function h) items (function_item items h k)
+    ]
+
+quiet_body : (items : List Item) → Quiet (pieces.pieces items) → (h : FunctionTree) → Contains (functions items) h → Quiet (pieces.in_statements (in_function items h) h.body.all)
+quiet_body items quiet h c =
+    let all = quiet_tail (Program items) (flat_map (item items) items) quiet in
+    let body = pieces.in_statements (in_function items h) h.body.all in
+    let contract = flat_map (clause (in_function items h)) h.contract in
+    let own = quiet_tail (Function items h) (if_some (struct_name items) h.value ++ (types_of items h.parameters ++ (types_of items h.ghost_parameters ++ (contract ++ body)))) (quiet_part (item items) items (i.Function h) all (function_item items h c)) in
+    quiet_right contract body (quiet_right (types_of items h.ghost_parameters) (contract ++ body) (quiet_right (types_of items h.parameters) (types_of items h.ghost_parameters ++ (contract ++ body)) (quiet_right (if_some (struct_name items) h.value) (types_of items h.parameters ++ (types_of items h.ghost_parameters ++ (contract ++ body))) own)))
+
+module _ (items : List Item) (law : CodeLaw) (all : Tables items (program items)) (info : FunctionInfo) (h : FunctionTree) (vars_are : info.variables ≡ map (variable items) (variables h)) (k : ℕ) (x : Site) (m : Made items info (around_function items h).names k x (λ j. all_tell (around_function items h) j h.body.all)) where
+  said_pieces : Quiet (expressions m.context m.objects ++ expression (claim_property m.objects m.context) m.said)
+  said_pieces = quiet_tail (NewClaim m.context m.objects m.said) (expressions m.context m.objects ++ expression (claim_property m.objects m.context) m.said) m.quiet
+
+  object_pieces : (o : Exp) → Contains m.objects o → Quiet (expression m.context (bare o))
+  object_pieces o c = quiet_bare m.context o (quiet_part (expression m.context) m.objects o (quiet_left (expressions m.context m.objects) (expression (claim_property m.objects m.context) m.said) said_pieces) c)
+
+  -- a variable that is known and stands in the claim is named
+  variable_named : (u : Id) (v : Variable) → find_variable m.around.context.scope u ≡ Some v → IsTrue (list_any (mentions u) (m.said ∷ m.objects)) → IsTrue (is_named (named 0 m.around.names (m.said ∷ m.objects)) (place_of (λ n. bytes_eq n u.name) m.around.names))
+  variable_named u v g among =
+      let r = found_variable items (program items) info law all m.around m.in_code m.context m.scope_is m.in_ghost u v g in
+      place_named m.around.names (m.said ∷ m.objects) u (subst (Contains m.around.names) r.1 (in_names items info (variables h) vars_are m.around.names m.names_are v r.0)) among
+
+  object_named : (z : Exp) → Quiet (expression m.context z) → ((u : Id) → IsTrue (mentions u z) → IsTrue (list_any (mentions u) (m.said ∷ m.objects))) → IsTrue (claimed_named (named 0 m.around.names (m.said ∷ m.objects)) (claimed_bare m.around z))
+  object_named (e.Name u) quiet f =
+      let given = from_not (is_some (type_of_name m.context.scope u)) (not_placed _ u.place (quiet_last [] (Expression m.context (e.Name u)) quiet r.Undeclared)) in
+      let v = name_known items (program items) info law all m.around m.in_code m.context m.scope_is m.in_ghost u given in
+      variable_named u v.0 v.1 (f u (name_itself u))
+  object_named (e.Null q) quiet f = refl
+  object_named _ quiet f = refl
+
+  objects_named : (o : Exp) → Contains m.objects o → IsTrue (claimed_named (named 0 m.around.names (m.said ∷ m.objects)) (claimed m.around o))
+  objects_named o c = object_named (bare o) (object_pieces o c) (λ u g. any_tail (mentions u) m.said m.objects (any_member (mentions u) m.objects o c (sym (mentions_bare u o) ∙ g)))
+
+  objects_ok : (o : Exp) → Contains m.objects o → IsTrue (claimed_ok (program items) info (claimed m.around o))
+  objects_ok o c =
+      let rules = quiet_head (NewClaim m.context m.objects m.said) (expressions m.context m.objects ++ expression (claim_property m.objects m.context) m.said) m.quiet in
+      let fits = not_placed _ (first_place o) (flat_none (λ u. place_if (fail_together converts u.value u.wanted) u.place) (map (as_reference m.context) m.objects) (rules r.Conversion) (as_reference m.context o) (contains_map (as_reference m.context) m.objects o c)) in
+      let claimable = not_placed _ (first_place o) (flat_none (λ z. place_if (fails may_be_claimed (kind m.context.scope z)) (first_place z)) m.objects (rules r.Claimed) o c) in
+      object_ok items (program items) info law all m.around m.in_code m.context m.scope_is m.in_ghost (bare o) (code_bare o (every_member is_code m.objects o m.objects_form c)) (object_pieces o c)
+      (subst (λ q. fail_together converts q (Some kinds.Object) ≡ false) (sym (kind_bare m.context.scope o)) fits) (subst (λ q. fails may_be_claimed q ≡ false) (sym (kind_bare m.context.scope o)) claimable)
+
+  length_is : length info.variables ≡ length m.around.names
+  length_is = ap (λ ws. length ws) vars_are ∙ (length-map (variables h) (variable items) ∙ (sym (length-map (variables h) (λ v. v.name.name)) ∙ ap (λ ns. length ns) (sym m.names_are)))
+
+  variables_below : IsTrue (every (λ j. nat_lt j (length info.variables)) (named 0 m.around.names (m.said ∷ m.objects)))
+  variables_below = named_below 0 m.around.names (m.said ∷ m.objects) (length info.variables) (omega (arith, length_is))
+
+  -- where the property stands
+  is_property : IsProperty (claim_property m.objects m.context).text m.context.value m.context.scope m.around
+  is_property = record {
+    text_is = refl;
+    scope_is = sym m.scope_is;
+    no_bound = m.in_code.no_bound;
+    no_this = subst (λ u. u.this ≡ None) (sym m.scope_is) m.in_code.no_this;
+    known = subst IsKnown (sym m.scope_is) m.in_code.known;
+    placed = record { this_given = λ g. never g; result_given = λ g. never g };
+  }
+
+  conjuncts_pass : IsTrue (every (conjunct_passes true (is_named (named 0 m.around.names (m.said ∷ m.objects)))) (property m.around 0 m.said))
+  conjuncts_pass =
+      property_passes (is_named (named 0 m.around.names (m.said ∷ m.objects))) (claim_property m.objects m.context) m.around is_property 0 m.said refl m.said_form
+      (λ u v g i. variable_named u v g (any_head (mentions u) m.said m.objects i)) (quiet_right (expressions m.context m.objects) (expression (claim_property m.objects m.context) m.said) said_pieces)
+
+  module _ (in_items : Contains (functions items) h) where
+    conjunct_placed : (w : Spec) → Contains (property m.around 0 m.said) w → IsTrue (shape_ok (slice_get (program items).shapes (conjunct (shapes items) (function_sorts items h) w).shape))
+    conjunct_placed w c =
+        shape_passes items (function_sorts items h) (is_named (named 0 m.around.names (m.said ∷ m.objects))) w (every_member (conjunct_passes true (is_named (named 0 m.around.names (m.said ∷ m.objects)))) (property m.around 0 m.said) w conjuncts_pass c)
+        (told_shape items h in_items w (λ j. (site m.around j m.line m.objects m.said, Contains-append_right (flat_map (clause_tells (around_function items h)) h.contract) (all_tell (around_function items h) j h.body.all) (Makes (site m.around j m.line m.objects m.said)) (m.told j), c)))
+
+    -- the site that stands in the table
+    site_passes : IsTrue (site_ok (program items) (Some info) (claim_site (shapes items) (function_sorts items h) (site m.around k m.line m.objects m.said)))
+    site_passes =
+        let is = named 0 m.around.names (m.said ∷ m.objects) in
+        let s = function_sorts items h in
+        let l = shapes items in
+        let stated = property m.around 0 m.said in
+        let objects_are = every_map (claimed_named is) (claimed m.around) m.objects (every_of (λ o. claimed_named is (claimed m.around o)) m.objects objects_named) in
+        let holes_are = every_map (λ c. every (hole_named is) c.holes) (conjunct l s) stated (every_of (λ w. every (hole_named is) (holes w)) stated (λ w c. holes_named is w (every_member (conjunct_passes true (is_named is)) stated w conjuncts_pass c))) in
+        let all_ok = every_map (claimed_ok (program items) info) (claimed m.around) m.objects (every_of (λ o. claimed_ok (program items) info (claimed m.around o)) m.objects objects_ok) in
+        let shapes_ok = every_map (λ c. shape_ok (slice_get (program items).shapes c.shape)) (conjunct l s) stated (every_of (λ w. shape_ok (slice_get (program items).shapes (conjunct l s w).shape)) stated conjunct_placed) in
+        four (names_all (claim_site l s (site m.around k m.line m.objects m.said))) (every (claimed_ok (program items) info) (map (claimed m.around) m.objects)) (every (λ j. nat_lt j (length info.variables)) is) (every (λ c. shape_ok (slice_get (program items).shapes c.shape)) (map (conjunct l s) stated))
+        (both (every (claimed_named is) (map (claimed m.around) m.objects)) (every (λ c. every (hole_named is) c.holes) (map (conjunct l s) stated)) objects_are holes_are) all_ok variables_below shapes_ok
+
+    made_passes : IsTrue (site_ok (program items) (Some info) (claim_site (shapes items) (function_sorts items h) x))
+    made_passes = subst (λ z. IsTrue (site_ok (program items) (Some info) (claim_site (shapes items) (function_sorts items h) z))) (sym m.is) site_passes
+
+-- ---- the table of claim sites
+
+made_in : (x : Site) (told : List Told) → Contains (sites_told told) x → Contains told (Makes x)
+made_in x [] c = absurd (contains_none x c)
+made_in x (Says w ∷ more) c = contains_tail (Says w) (Makes x) more (made_in x more c)
+made_in x (Makes y ∷ more) c =
+    elim (contains_cases y x (sites_told more) c) [
+      | inl g ↦ subst (λ z. Contains (Makes y ∷ more) (Makes z)) g (contains_head (Makes y) more)
+      | inr k ↦ contains_tail (Makes y) (Makes x) more (made_in x more k)
+    ]
+
+-- claim sites of a program that breaks no rule are well formed
+pub claims_law : TablesLaw → SitesLaw → EntryLaw → CodeLaw → ClaimsLaw
+claims_law tables_law sites_law entry_law code_law items end formed typed n s at =
+    let of = sites_law items end typed n s at in
+    let fo = of.function_of in
+    let h = fo.tree in
+    let quiet = quiet_items items end typed in
+    let a = around_function items h in
+    let vars_are : of.info.variables ≡ map (variable items) (variables h) = ap (λ z. z.variables) fo.is in
+    let body_form : IsTrue (form.in_statements h.body.all) = every_member in_item items (i.Function h) formed (function_item items h fo.in_items) in
+    let body_known = λ (v : Variable) (c : Contains (all_declared h.body.all) v).
+    fo.numbered v (Contains-append_right (map (parameter false) h.parameters) (map (parameter true) h.ghost_parameters ++ all_declared h.body.all) v (Contains-append_right (map (parameter true) h.ghost_parameters) (all_declared h.body.all) v c)) in
+    let m = all_made items of.info a.names s.function of.made a (in_function items h) refl (entry_law items end typed s.function of.info fo) refl h.body.all body_form (quiet_body items quiet h fo.in_items) body_known (made_in of.made (all_tell a s.function h.body.all) of.told) in
+    let passing = made_passes items code_law (tables_law items end typed) of.info h vars_are s.function of.made m fo.in_items in
+    subst (λ o. IsTrue (site_ok (program items) o s)) (sym of.at_number) (subst (λ z. IsTrue (site_ok (program items) (Some of.info) z)) (sym of.is) passing)
