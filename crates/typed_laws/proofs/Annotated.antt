@@ -20,14 +20,14 @@ use Rattle.typed_program.specs.Sites.{all_tell}
 use Rattle.typed_program.specs.Tables.{around_function, contract_formulas, clause_tells, function, function_tells, function_sorts, numbered_function, shapes, program}
 use Rattle.typed_laws.specs.Fits.{of_function, at_return, fits, names_object, in_row}
 use Rattle.typed_laws.specs.Law.{AnnotationsLaw}
+use Rattle.typed_laws.proofs.Quiet.{quiet_item, quiet_left, quiet_right, quiet_rest}
 use Rattle.typed_laws.proofs.Facts.{Tables, InCode, FunctionOf}
-use Rattle.typed_laws.proofs.SpecGoals.{MeaningLaw}
-use Rattle.typed_laws.proofs.Quiet.{quiet_item}
 use Rattle.typed_laws.proofs.Entry.{function_item, body_quiet, value_typed, entry_law}
 use Rattle.typed_laws.proofs.FunctionTables.{functions_law, tables_law}
-use Rattle.typed_laws.proofs.SpecBasics.{quiet_left, quiet_right, quiet_tail}
+use Rattle.typed_laws.proofs.SpecShapes.{in_functions}
+use Rattle.typed_laws.proofs.SpecGoals.{MeaningLaw}
 use Rattle.typed_laws.proofs.Numbered.{Agree}
-use Rattle.typed_laws.proofs.FitTables.{in_functions, function_sorts_are, agree_function, agree_return}
+use Rattle.typed_laws.proofs.FitTables.{function_sorts_are, agree_function, agree_return}
 use Rattle.typed_laws.proofs.FitClauses.{Known, known_left, known_right, preconditions_fit, postconditions_fit, writes_refer}
 use Rattle.typed_laws.proofs.FitBodies.{rows_good}
 use Rattle.typed_laws.proofs.FitStructs.{invariants_in_table, fixed_in_table}
@@ -40,7 +40,7 @@ contract_quiet : (items : List Item) (end : Span) → IsWellTyped items end → 
 contract_quiet items end typed h c =
     let contract = flat_map (clause (in_function items h)) h.contract in
     let body = in_statements (in_function items h) h.body.all in
-    let own = quiet_tail (Function items h) (if_some (struct_name items) h.value ++ (types_of items h.parameters ++ (types_of items h.ghost_parameters ++ (contract ++ body)))) (quiet_item items end typed (i.Function h) (function_item items h c)) in
+    let own = quiet_rest (Function items h) (if_some (struct_name items) h.value ++ (types_of items h.parameters ++ (types_of items h.ghost_parameters ++ (contract ++ body)))) (quiet_item items end typed (i.Function h) (function_item items h c)) in
     quiet_left contract body (quiet_right (types_of items h.ghost_parameters) (contract ++ body) (quiet_right (types_of items h.parameters) (types_of items h.ghost_parameters ++ (contract ++ body)) (quiet_right (if_some (struct_name items) h.value) (types_of items h.parameters ++ (types_of items h.ghost_parameters ++ (contract ++ body))) own)))
 
 module _ (items : List Item) (k : ℕ) (info : FunctionInfo) (of : FunctionOf items k info) where

@@ -1,5 +1,5 @@
 -- Statements that break no rule are typed well: `body_law`.
-use Rattle.std.specs.Prelude.{Bool, true, false, ◌&&◌, ℕ, ◌+◌, List, [], ◌∷◌, ◌++◌, length, map, Option, Some, None, option_map, Contains, IsTrue}
+use Rattle.std.specs.Prelude.{Bool, true, false, ◌&&◌, ℕ, ◌+◌, List, [], ◌∷◌, ◌++◌, map, Option, Some, None, option_map, Contains, IsTrue}
 use Rattle.std.proofs.Common.{◌≡◌, refl, sym, ap, subst, arith, ◌∙◌}
 use Rattle.std.proofs.lemmas.Bool.{true≢false}
 use Rattle.c_syntax.specs.declared.token.Span.{Span}
@@ -16,7 +16,7 @@ use Rattle.c_types.specs.Values.{right_kind}
 use Rattle.c_types.specs.Rules as r
 use Rattle.c_types.specs.Pieces as pieces
 use Rattle.c_types.specs.Pieces.{Piece, Statement, GhostStatement, Expression, expression, expressions, struct_name, behind, invariants}
-use Rattle.c_types.specs.Places.{place_if, places_if, fail_together}
+use Rattle.c_types.specs.Places.{place_if, fail_together}
 use Rattle.c_types.specs.Conversions.{return_uses}
 use Rattle.c_types.specs.Atomic.{is_call_or_malloc}
 use Rattle.c_types.specs.Functions.{returns_well}
@@ -31,10 +31,12 @@ use Rattle.typed_program.specs.Statements as s
 use Rattle.typed_program.specs.Statements.{Before, plus, plus_formulas, in_invariants, type_or, left_type, target, variable, right, changed, conversion_between, value_of_call, assigned_by, assigned, maybe_assigned, defined, known_behind, listed, returned, inner_row, inner_rows, row, rows, append, append_inner}
 use Rattle.tree_forms.specs.InForm as form
 use Rattle.tree_forms.specs.InForm.{is_code, is_place, all_code, if_any}
+use Rattle.typed_laws.proofs.Basics.{and_both, and_left, and_right, from_not, neither_right}
+use Rattle.typed_laws.proofs.Quiet.{quiet_left, quiet_right, quiet_first, quiet_rest, not_placed, none_placed}
 use Rattle.typed_laws.proofs.Tests.{right_values, takes, is_ref, all_refs, simple_ok, return_ok, stmt_ok, row_ok, inner_row_ok}
 use Rattle.typed_laws.proofs.Facts.{Tables, InCode, Numbered, SitesOf, runs}
 use Rattle.typed_laws.proofs.Goals.{CodeLaw}
-use Rattle.typed_laws.proofs.BodyParts.{and_both, and_left, and_right, or_right, from_not, not_placed, quiet_left, quiet_right, quiet_first, quiet_rest, Converts, piece_converts}
+use Rattle.typed_laws.proofs.BodyParts.{Converts, piece_converts}
 use Rattle.typed_laws.proofs.Sides.{FunctionsTyped, Setting, here, around, at, Knows, Valued, valued, stores, placed}
 use Rattle.typed_laws.proofs.BodyRights.{EffectStands, Stands, right_ok, effect_ok}
 use Rattle.typed_laws.proofs.BodyCalls.{kind_known, call_made, result_fits}
@@ -77,11 +79,6 @@ maybe_ok : (o : Setting) (vs : List Variable) → Knows o vs → (w c : Context)
     → IsTrue (row_ok o.program o.info o.number (maybe_assigned (around o vs w) x))
 maybe_ok o vs m w c rn None f q = refl
 maybe_ok o vs m w c rn (Some x) f q = alone _ (assigned_ok o vs m w c rn (first_place x.left).line x.left x.place x.effect f q)
-
--- no place of a list is given, so there is none
-none_placed : (xs : List Span) → places_if true xs ≡ [] → xs ≡ []
-none_placed [] h = refl
-none_placed (x ∷ xs) h = absurd (omega (arith, ap length h))
 
 stands_inside : (y : Effect) → is_call_or_malloc y ≡ false → EffectStands true y
 stands_inside (e.Set (e.Called x)) h = absurd (true≢false h)
@@ -141,13 +138,13 @@ return_none o (Some ty) h = absurd (true≢false (sym h))
 returns_ok : (o : Setting) (vs : List Variable) → Knows o vs → (w c : Context) → IsTrue (runs c.text) → (p : Span) (x : Option Exp) → IsTrue (if_any is_code x) → Quiet (Statement (at o vs false c) (st.Return p x) ∷ pieces.in_statement (at o vs false c) (st.Return p x))
     → IsTrue (return_ok o.program o.info o.info.value (returned (around o vs w) x))
 returns_ok o vs m w c rn p None f q =
-    let well = from_not _ (or_right c.in_unwrapping _ (not_placed _ p (quiet_first (Statement (at o vs false c) (st.Return p None)) [] q r.ReturnForm))) in
+    let well = from_not _ (neither_right c.in_unwrapping _ (not_placed _ p (quiet_first (Statement (at o vs false c) (st.Return p None)) [] q r.ReturnForm))) in
     subst (λ z. IsTrue (return_ok o.program o.info z None)) (sym o.value_is) (return_none o o.value well)
 returns_ok o vs m w c rn p (Some x) f q =
     let piece = Statement (at o vs false c) (st.Return p (Some x)) in
     let rules = quiet_first piece (expression (at o vs false c) x) q in
     let v = valued o vs m w false c rn x f (quiet_rest piece (expression (at o vs false c) x) q) in
-    let well = from_not _ (or_right c.in_unwrapping _ (not_placed _ p (rules r.ReturnForm))) in
+    let well = from_not _ (neither_right c.in_unwrapping _ (not_placed _ p (rules r.ReturnForm))) in
     subst (λ z. IsTrue (return_ok o.program o.info z (returned (around o vs w) (Some x)))) (sym o.value_is) (return_value o vs w c x v o.value o.value_typed well (piece_converts piece (rules r.Conversion)))
 
 -- ---- what is known behind

@@ -3,6 +3,7 @@ use Rattle.std.specs.Prelude.{Bool, true, false, not, ◌&&◌, ◌==◌, ℕ, �
 use Rattle.std.proofs.Common.{◌≡◌, refl, sym, ap, subst, arith, ◌∙◌, append-nil}
 use Rattle.std.proofs.lemmas.Bool.{true≢false}
 use Rattle.std.proofs.lemmas.List.Elements.{Contains-append_right}
+use Rattle.std.proofs.lemmas.Option.{same_Some}
 use Rattle.int_ranges.specs.declared.ctype.CType.TheVariants as ints
 use Rattle.c_syntax.specs.Expressions as e
 use Rattle.c_syntax.specs.Expressions.{Id, Ty, Exp, CallTree}
@@ -28,10 +29,13 @@ use Rattle.typed_program.specs.Statements.{passed, passed_to, arguments, value_o
 use Rattle.typed_program.specs.Tables.{variable}
 use Rattle.tree_forms.specs.InForm as form
 use Rattle.tree_forms.specs.InForm.{is_code, all_code}
+use Rattle.typed_laws.proofs.Basics.{and_both, and_left, and_right, from_not}
+use Rattle.typed_laws.proofs.Quiet.{quiet_left, quiet_right, quiet_first, quiet_rest, not_placed}
 use Rattle.typed_laws.proofs.Tests.{test, converted_values, has_type, args_fit, call_ok, result_values}
 use Rattle.typed_laws.proofs.Facts.{Agrees, FunctionAt, runs}
-use Rattle.typed_laws.proofs.BodyParts.{and_both, and_left, and_right, from_not, same_some, given, found, equal_numbers, numbers_equal, not_placed, quiet_left, quiet_right, quiet_first, quiet_rest, Converts, piece_converts, converts_left, converts_right, together}
-use Rattle.typed_laws.proofs.Sides.{Setting, here, around, at, Knows, valued, all_within, fits_within, converted_within, number_by_name, pointed, Refers, stores}
+use Rattle.typed_laws.proofs.Found.{number_by_name, all_within}
+use Rattle.typed_laws.proofs.BodyParts.{given, found, equal_numbers, numbers_equal, Converts, piece_converts, converts_left, converts_right, together}
+use Rattle.typed_laws.proofs.Sides.{Setting, here, around, at, Knows, valued, fits_within, converted_within, pointed, Refers, stores}
 use Rattle.typed_laws.proofs.BodyRights.{fit_reference}
 
 -- ---- arguments
@@ -118,17 +122,17 @@ refers_agree items (e.Integer c) i n h = absurd n
 refers_agree items (e.Pointer y) i n h =
     let s = pointed items y i h in
     (ap (λ z. is_integer (Some z)) s.1, subst (λ z. Agrees items z ints.Int (Refs (d.Pointer (struct_number items y)))) (sym s.1) (ap (λ z. Refs (d.Pointer z)) (sym (number_by_name items s.0.name y s.2))))
-refers_agree items e.Object i n h = let s = same_some kd.Object i h in (ap (λ z. is_integer (Some z)) (sym s), subst (λ z. Agrees items z ints.Int (Refs d.Object)) s refl)
-refers_agree items e.Claim i n h = let s = same_some kd.Claim i h in (ap (λ z. is_integer (Some z)) (sym s), subst (λ z. Agrees items z ints.Int (Refs d.Claim)) s refl)
+refers_agree items e.Object i n h = let s = same_Some kd.Object i h in (ap (λ z. is_integer (Some z)) (sym s), subst (λ z. Agrees items z ints.Int (Refs d.Object)) s refl)
+refers_agree items e.Claim i n h = let s = same_Some kd.Claim i h in (ap (λ z. is_integer (Some z)) (sym s), subst (λ z. Agrees items z ints.Int (Refs d.Claim)) s refl)
 
 -- a value of one declared type comes to another
 typed_fits : (items : List Item) (from : Ty) (j : Kind) (ty : Ty) (i : Kind) → kind_of items from ≡ Some j → kind_of items ty ≡ Some i → converts j i ≡ true → IsTrue (fits (converted_values (conversion_between (Some from) ty) (declared (declared_type items from))) (declared_type items ty))
 typed_fits items (e.Integer a) j (e.Integer b) i h g n = fits_within b (converted_values (conversion a b) (all_of a)) (converted_within a b (all_of a) (all_within a))
 typed_fits items (e.Integer a) j (e.Pointer y) i h g n =
     let s = pointed items y i g in
-    absurd (true≢false (sym (subst (λ z. converts z (kd.Pointer s.0) ≡ true) (sym (same_some kd.Integer j h)) (subst (λ z. converts j z ≡ true) s.1 n))))
-typed_fits items (e.Integer a) j e.Object i h g n = absurd (true≢false (sym (subst (λ z. converts z kd.Object ≡ true) (sym (same_some kd.Integer j h)) (subst (λ z. converts j z ≡ true) (sym (same_some kd.Object i g)) n))))
-typed_fits items (e.Integer a) j e.Claim i h g n = absurd (true≢false (sym (subst (λ z. converts z kd.Claim ≡ true) (sym (same_some kd.Integer j h)) (subst (λ z. converts j z ≡ true) (sym (same_some kd.Claim i g)) n))))
+    absurd (true≢false (sym (subst (λ z. converts z (kd.Pointer s.0) ≡ true) (sym (same_Some kd.Integer j h)) (subst (λ z. converts j z ≡ true) s.1 n))))
+typed_fits items (e.Integer a) j e.Object i h g n = absurd (true≢false (sym (subst (λ z. converts z kd.Object ≡ true) (sym (same_Some kd.Integer j h)) (subst (λ z. converts j z ≡ true) (sym (same_Some kd.Object i g)) n))))
+typed_fits items (e.Integer a) j e.Claim i h g n = absurd (true≢false (sym (subst (λ z. converts z kd.Claim ≡ true) (sym (same_Some kd.Integer j h)) (subst (λ z. converts j z ≡ true) (sym (same_Some kd.Claim i g)) n))))
 typed_fits items (e.Pointer y) j ty i h g n = let a = refers_agree items (e.Pointer y) j tt h in fit_reference items ty j i ints.Int (declared (declared_type items (e.Pointer y))) a.0 g n a.1
 typed_fits items e.Object j ty i h g n = let a = refers_agree items e.Object j tt h in fit_reference items ty j i ints.Int (declared d.Object) a.0 g n a.1
 typed_fits items e.Claim j ty i h g n = let a = refers_agree items e.Claim j tt h in fit_reference items ty j i ints.Int (declared d.Claim) a.0 g n a.1

@@ -2,6 +2,7 @@
 use Rattle.std.specs.Prelude.{Bool, true, false, not, ◌&&◌, ◌==◌, if◌then◌else◌, List, [], ◌∷◌, ◌++◌, length, map, slice_get, Option, Some, None, is_some, option_map, option_and_then, Contains, pos, IsTrue}
 use Rattle.std.proofs.Common.{◌≡◌, refl, sym, ap, subst, arith, ◌∙◌}
 use Rattle.std.proofs.lemmas.Bool.{true≢false}
+use Rattle.std.proofs.lemmas.Option.{same_Some}
 use Rattle.int_ranges.specs.declared.ctype.CType.{CType}
 use Rattle.int_ranges.specs.declared.ctype.CType.TheVariants as ints
 use Rattle.c_syntax.specs.declared.token.Span.{Span}
@@ -38,17 +39,20 @@ use Rattle.typed_program.specs.Statements.{left_type, operation_on, afterwards, 
 use Rattle.typed_program.specs.Tables.{field}
 use Rattle.tree_forms.specs.InForm as form
 use Rattle.tree_forms.specs.InForm.{is_code, is_place, all_code, if_any}
+use Rattle.typed_laws.proofs.Basics.{and_both, and_left, and_right, from_not, neither_left, neither_right, nat_itself, same_bytes}
+use Rattle.typed_laws.proofs.Quiet.{quiet_left, quiet_right, quiet_first, quiet_rest, not_placed}
 use Rattle.typed_laws.proofs.Tests.{values, test, struct_test, is_struct, converted_values, has_type, right_values, operands_fit, afterwards_values, interlocked_values, is_pointer}
 use Rattle.typed_laws.proofs.Facts.{Within, Agrees, runs}
-use Rattle.typed_laws.proofs.BodyParts.{and_both, and_left, and_right, or_left, or_right, from_not, same_some, given, found, same_bytes, numbers_equal, at_itself, not_placed, quiet_left, quiet_right, quiet_first, quiet_rest, Converts, piece_converts, together, passes}
-use Rattle.typed_laws.proofs.Sides.{Named, Setting, here, around, at, Knows, Valued, valued, test_some, all_within, ints_within, fits_within, converted_within, in_type, number_by_name, from_integer, refers_fit, store, stores, Placed, field_of_object, declared_field}
+use Rattle.typed_laws.proofs.Found.{number_by_name, all_within, within_ints}
+use Rattle.typed_laws.proofs.BodyParts.{given, found, numbers_equal, Converts, piece_converts, together, passes}
+use Rattle.typed_laws.proofs.Sides.{Named, Setting, here, around, at, Knows, Valued, valued, test_some, fits_within, converted_within, in_type, from_integer, refers_fit, store, stores, Placed, field_of_object, declared_field}
 
 -- ---- references
 
 -- a reference that converts to the kind of a declared type fits it
 pub fit_reference : (items : List Item) (ty : Ty) (i w : Kind) (c : CType) (v : Values) → is_integer (Some i) ≡ false → kind_of items ty ≡ Some w → converts i w ≡ true → Agrees items i c v → IsTrue (fits v (declared_type items ty))
 fit_reference items (e.Integer b) i w c v n h j a =
-    let is : i ≡ kd.Integer = from_integer i (subst (λ z. converts i z ≡ true) (sym (same_some kd.Integer w h)) j) in
+    let is : i ≡ kd.Integer = from_integer i (subst (λ z. converts i z ≡ true) (sym (same_Some kd.Integer w h)) j) in
     absurd (true≢false (sym (ap (λ z. is_integer (Some z)) is) ∙ n))
 fit_reference items (e.Pointer y) i w c v n h j a = refers_fit items (e.Pointer y) i w c v tt h j a
 fit_reference items e.Object i w c v n h j a = refers_fit items e.Object i w c v tt h j a
@@ -106,9 +110,9 @@ integer_into items (e.Pointer y) i h j = absurd (no_pointer (find_struct items y
   where
     no_pointer : (s : Option StructTree) → option_map (λ z. kd.Pointer z) s ≡ Some i → ⊥
     no_pointer None g = true≢false (sym (ap is_some g))
-    no_pointer (Some s) g = true≢false (sym (subst (λ z. converts kd.Integer z ≡ true) (sym (same_some (kd.Pointer s) i g)) j))
-integer_into items e.Object i h j = absurd (true≢false (sym (subst (λ z. converts kd.Integer z ≡ true) (sym (same_some kd.Object i h)) j)))
-integer_into items e.Claim i h j = absurd (true≢false (sym (subst (λ z. converts kd.Integer z ≡ true) (sym (same_some kd.Claim i h)) j)))
+    no_pointer (Some s) g = true≢false (sym (subst (λ z. converts kd.Integer z ≡ true) (sym (same_Some (kd.Pointer s) i g)) j))
+integer_into items e.Object i h j = absurd (true≢false (sym (subst (λ z. converts kd.Integer z ≡ true) (sym (same_Some kd.Object i h)) j)))
+integer_into items e.Claim i h j = absurd (true≢false (sym (subst (λ z. converts kd.Integer z ≡ true) (sym (same_Some kd.Claim i h)) j)))
 
 integer_type_is : (ty : Ty) → is_integer_type ty ≡ true → (c : CType) × (ty ≡ e.Integer c)
 integer_type_is (e.Integer c) h = (c, refl)
@@ -167,13 +171,13 @@ afterwards_ok o vs m w b c rn ty place x (Some y) i f q n =
     let whole = converted_values (conversion other.ty both) v.all in
     let truth = converted_values (conversion ints.Int place) truth_values in
     subst (λ z. IsTrue (test (and_then z (λ u. only_if (are_ints u) truth)) (λ u. fits u (d.Integer place)))) (sym has)
-    (subst (λ z. IsTrue (test (only_if z truth) (λ u. fits u (d.Integer place)))) (sym (ints_within both whole (converted_within other.ty both v.all inside)))
+    (subst (λ z. IsTrue (test (only_if z truth) (λ u. fits u (d.Integer place)))) (sym (within_ints both whole (converted_within other.ty both v.all inside)))
     (fits_within place truth (converted_within ints.Int place truth_values refl)))
 
 interlocked_ok : (p : Program) (f : FunctionInfo) (object : Code) (slot : Option FieldInfo) (info : FieldInfo) (operation : Operation) (next : t.Afterwards) (c : CType) (ok : Values → Bool) → values p f object ≡ Some (Refs (d.Pointer info.of)) → slot ≡ Some info → info.ty ≡ d.Integer c → info.is_volatile ≡ true
     → IsTrue (operands_fit p f operation (d.Integer c)) → IsTrue (test (afterwards_values p f next (all_of c)) ok) → IsTrue (test (interlocked_values p f object slot operation next) ok)
 interlocked_ok p f object slot info operation next c ok h s ty vol ops after =
-    let pointing : IsTrue (is_pointer p f (λ n. n == info.of) object) = test_some (values p f object) (Refs (d.Pointer info.of)) (point_to (λ n. n == info.of)) h (at_itself info.of) in
+    let pointing : IsTrue (is_pointer p f (λ n. n == info.of) object) = test_some (values p f object) (Refs (d.Pointer info.of)) (point_to (λ n. n == info.of)) h (nat_itself info.of) in
     let operands : IsTrue (operands_fit p f operation info.ty) = subst (λ z. IsTrue (operands_fit p f operation z)) (sym ty) ops in
     let integers : IsTrue (are_ints (declared info.ty)) = subst (λ z. IsTrue (are_ints (declared z))) (sym ty) refl in
     let all : IsTrue (is_pointer p f (λ n. n == info.of) object && (info.is_volatile && (are_ints (declared info.ty) && operands_fit p f operation info.ty))) =
@@ -198,7 +202,7 @@ exchanged o vs w p x y i n k h =
     let named : field_named (here o vs) (e.Field p x y) ≡ Some n.tree = declared_field o vs w p x y i n in
     let fit : is_exchangeable n.tree ≡ true = from_not (is_exchangeable n.tree) (subst (λ u. field_is (λ f. not (is_exchangeable f)) u ≡ false) named h) in
     let int = integer_type_is n.tree.ty (and_right n.tree.is_volatile (is_integer_type n.tree.ty) fit) in
-    let is_kind : kd.Integer ≡ i = same_some kd.Integer i (ap (kind_of o.items) (sym int.1) ∙ n.of_type) in
+    let is_kind : kd.Integer ≡ i = same_Some kd.Integer i (ap (kind_of o.items) (sym int.1) ∙ n.of_type) in
     record {
       owner = n.owner;
       tree = n.tree;
@@ -240,11 +244,11 @@ inter_field o vs m w c rn p fn fp z g xs y fz fxs fy q ty i h j =
     let inner = valued o vs m w true (deeper c) rn z fz (quiet_left (expression (at o vs true (deeper c)) z) (pieces.Expression c2 x.field ∷ []) field_quiet) in
     let calls = not_placed _ p (rules r.InterlockedCall) in
     let fault = field_is (λ f. not (is_exchangeable f)) (field_named (here o vs) x.field) in
-    let k = exchanged o vs w fp z g v.sort (field_of_object o vs w fp z g v.sort inner v.is_kind) v.is_kind (or_left fault _ calls) in
+    let k = exchanged o vs w fp z g v.sort (field_of_object o vs w fp z g v.sort inner v.is_kind) v.is_kind (neither_left fault _ calls) in
     let gives : interlocked_kind (here o vs) x ≡ Some kd.Integer = ap (option_and_then (λ u. kd.only_if (kd.is_integer u) kd.Integer)) k.of_kind in
     let into = integer_into o.items ty i h (together converts (interlocked_kind (here o vs) x) (Some i) kd.Integer i gives refl j) in
     subst (λ u. IsTrue (test (right_values o.program o.info o.number true (interlocked (around o vs w) u x y)) (λ v. fits v (declared_type o.items u)))) (sym into.1)
-    (exchanged_ok o vs m w c rn x fp z g y into.0 fxs fy k gives rules (quiet_left (expressions c2 xs) (pieces.compared c2 y) rest) (quiet_right (expressions c2 xs) (pieces.compared c2 y) rest) (from_not _ (or_right fault _ calls)))
+    (exchanged_ok o vs m w c rn x fp z g y into.0 fxs fy k gives rules (quiet_left (expressions c2 xs) (pieces.compared c2 y) rest) (quiet_right (expressions c2 xs) (pieces.compared c2 y) rest) (from_not _ (neither_right fault _ calls)))
 
 inter_ok : (o : Setting) (vs : List Variable) → Knows o vs → (w c : Context) → IsTrue (runs c.text) → (p : Span) (fn : Interlocked) (z : Exp) (xs : List Exp) (y : Option Comparison) → IsTrue (form.is_field z) → IsTrue (all_code xs) → IsTrue (if_any form.in_comparison y)
     → Quiet (pieces.right (at o vs true c) (e.Locked (record { place = p; function = fn; field = z; arguments = xs }) y)) → (ty : Ty) (i : Kind) → kind_of o.items ty ≡ Some i
@@ -310,7 +314,7 @@ arithmetic_has o a x y h j =
     let v = converted_values (conversion y.ty c) j.all in
     ap (λ z. and_then z (λ a. and_then (values o.program o.info (in_type_of c y)) (λ b. only_if (are_ints a && are_ints b) (all_of c)))) (in_type o.program o.info c x h.all h.is h.has h.inside)
     ∙ ap (λ z. and_then z (λ b. only_if (are_ints u && are_ints b) (all_of c))) (in_type o.program o.info c y j.all j.is j.has j.inside)
-    ∙ ap (λ z. only_if z (all_of c)) (and_both (are_ints u) (are_ints v) (ints_within c u (converted_within x.ty c h.all h.inside)) (ints_within c v (converted_within y.ty c j.all j.inside)))
+    ∙ ap (λ z. only_if z (all_of c)) (and_both (are_ints u) (are_ints v) (within_ints c u (converted_within x.ty c h.all h.inside)) (within_ints c v (converted_within y.ty c j.all j.inside)))
 
 updated_ok : (o : Setting) (vs : List Variable) (w : Context) (b : Bool) (a : Operator) (x : Exp) (y : Operand) → Placed o vs w x → IntOperand o (operand_of (here o vs) x (code (around o vs w) x)) → IntOperand o y → fails kd.is_integer (kind (here o vs) x) ≡ false
     → IsTrue (test (right_values o.program o.info o.number b (updated (around o vs w) a x y)) (λ v. fits v (declared_type o.items (left_type (here o vs) x))))
@@ -342,8 +346,8 @@ effect_ok o vs m w b c rn x p (e.Add y) s fx fy pl q =
     let apart : misfit op.Plus (kind (here o vs) x) (kind (here o vs) y) ≡ false = not_placed _ p (rules r.Operands) in
     let vx = valued o vs m w b c rn x (place_code x fx) (quiet_left (expression c2 x) (expression c2 y) parts) in
     let vy = valued o vs m w b c rn y fy (quiet_right (expression c2 x) (expression c2 y) parts) in
-    let hx = or_left (fails kd.is_integer (kind (here o vs) x)) _ apart in
-    let hy = or_left (fails kd.is_integer (kind (here o vs) y)) _ (or_right (fails kd.is_integer (kind (here o vs) x)) _ apart) in
+    let hx = neither_left (fails kd.is_integer (kind (here o vs) x)) _ apart in
+    let hy = neither_left (fails kd.is_integer (kind (here o vs) y)) _ (neither_right (fails kd.is_integer (kind (here o vs) x)) _ apart) in
     updated_ok o vs w b operators.Plus x (operand_of (here o vs) y (code (around o vs w) y)) pl (int_operand o vs w x vx hx) (int_operand o vs w y vy hy) hx
 effect_ok o vs m w b c rn x p (e.Subtract y) s fx fy pl q =
     let c2 = at o vs b c in
@@ -352,8 +356,8 @@ effect_ok o vs m w b c rn x p (e.Subtract y) s fx fy pl q =
     let apart : misfit op.Minus (kind (here o vs) x) (kind (here o vs) y) ≡ false = not_placed _ p (rules r.Operands) in
     let vx = valued o vs m w b c rn x (place_code x fx) (quiet_left (expression c2 x) (expression c2 y) parts) in
     let vy = valued o vs m w b c rn y fy (quiet_right (expression c2 x) (expression c2 y) parts) in
-    let hx = or_left (fails kd.is_integer (kind (here o vs) x)) _ apart in
-    let hy = or_left (fails kd.is_integer (kind (here o vs) y)) _ (or_right (fails kd.is_integer (kind (here o vs) x)) _ apart) in
+    let hx = neither_left (fails kd.is_integer (kind (here o vs) x)) _ apart in
+    let hy = neither_left (fails kd.is_integer (kind (here o vs) y)) _ (neither_right (fails kd.is_integer (kind (here o vs) x)) _ apart) in
     updated_ok o vs w b operators.Minus x (operand_of (here o vs) y (code (around o vs w) y)) pl (int_operand o vs w x vx hx) (int_operand o vs w y vy hy) hx
 effect_ok o vs m w b c rn x p e.Increment s fx fy pl q =
     let c2 = at o vs b c in

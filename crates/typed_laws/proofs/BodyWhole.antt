@@ -17,11 +17,11 @@ use Rattle.typed_program.specs.Variables.{parameter, all_declared}
 use Rattle.typed_program.specs.Statements.{plus_formulas, rows}
 use Rattle.typed_program.specs.Tables.{program, function, numbered_action, numbered_statement, numbered_row, sorts_of, shapes, around_function, contract_formulas}
 use Rattle.tree_forms.specs.InForm.{in_form, in_item}
+use Rattle.typed_laws.proofs.Basics.{and_left, and_right}
 use Rattle.typed_laws.proofs.Tests.{is_test, is_struct, is_pointer, action_ok, stmt_ok, row_ok}
 use Rattle.typed_laws.proofs.Facts.{FunctionOf, runs}
 use Rattle.typed_laws.proofs.Goals.{CodeLaw, TablesLaw, FunctionsLaw, BodiesLaw}
 use Rattle.typed_laws.proofs.Entry.{function_item, body_quiet, value_typed, parameters_typed, ghost_parameters_typed, entry_law}
-use Rattle.typed_laws.proofs.BodyParts.{and_left, and_right}
 use Rattle.typed_laws.proofs.Sides.{FunctionsTyped}
 use Rattle.typed_laws.proofs.Bodies.{body_law}
 

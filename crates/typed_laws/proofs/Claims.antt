@@ -38,17 +38,19 @@ use Rattle.typed_program.specs.Codes.{code, integer_type}
 use Rattle.typed_program.specs.Annotations.{property}
 use Rattle.typed_program.specs.Variables.{parameter, variables, all_declared}
 use Rattle.typed_program.specs.Shapes.{holes, conjunct}
-use Rattle.typed_program.specs.Sites.{Site, Told, Says, Makes, named, type_of_claimed, claimed_bare, claimed, site, all_tell}
-use Rattle.typed_program.specs.Tables.{around_function, variable, function_sorts, clause_tells, sites_told, claim_site, shapes, program}
+use Rattle.typed_program.specs.Sites.{Site, Makes, named, type_of_claimed, claimed_bare, claimed, site, all_tell}
+use Rattle.typed_program.specs.Tables.{around_function, variable, function_sorts, clause_tells, claim_site, shapes, program}
 use Rattle.tree_forms.specs.InForm as form
 use Rattle.tree_forms.specs.InForm.{is_code, all_code, is_spec, in_form, in_item}
+use Rattle.typed_laws.proofs.Basics.{and_both, from_not, never, contains_head, contains_tail, contains_cases, contains_none, contains_map, to_flat_map, every_map, every_member, every_of, own_name}
+use Rattle.typed_laws.proofs.Quiet.{quiet_left, quiet_right, quiet_last, quiet_first, quiet_rest, quiet_part, not_placed, quiet_items}
 use Rattle.typed_laws.proofs.Tests.{claimed_ok, claimed_named, names_all, shape_ok, site_ok, values, test}
 use Rattle.typed_laws.proofs.Facts.{Tables, InCode, Numbered, Agrees, FunctionOf, runs}
 use Rattle.typed_laws.proofs.Goals.{TablesLaw, SitesLaw, CodeLaw, ClaimsLaw}
-use Rattle.typed_laws.proofs.SpecBasics.{both, never, every_map, every_member, contains_head, contains_tail, contains_cases, contains_none, to_flat_map, quiet_left, quiet_right, quiet_last, quiet_tail, quiet_head, quiet_part, not_placed, from_not, quiet_items}
-use Rattle.typed_laws.proofs.Conjuncts.{conjunct_passes, IsProperty, known_variable, name_itself, property_passes, holes_named}
-use Rattle.typed_laws.proofs.SpecSites.{Made, all_made}
-use Rattle.typed_laws.proofs.SpecNamed.{place_named, named_below, contains_map, in_names}
+use Rattle.typed_laws.proofs.Entry.{function_item}
+use Rattle.typed_laws.proofs.Conjuncts.{conjunct_passes, IsProperty, known_variable, property_passes, holes_named}
+use Rattle.typed_laws.proofs.SpecSites.{Made, all_made, made_in}
+use Rattle.typed_laws.proofs.SpecNamed.{place_named, named_below, in_names}
 use Rattle.typed_laws.proofs.SpecShapes.{told_shape, shape_passes}
 
 -- what stands at a function's beginning
@@ -63,11 +65,6 @@ flat_none f xs h x c = go (f x) refl
     go : (ys : List _) → f x ≡ ys → f x ≡ []
     go [] g = g
     go (y ∷ ys) g = absurd (contains_none y (subst (λ zs. Contains zs y) h (to_flat_map f xs x y c (subst (λ zs. Contains zs y) (sym g) (contains_head y ys)))))
-
--- all pass where each member does
-every_of : {A : Type 0} (test : A → Bool) (xs : List A) → ((x : A) → Contains xs x → IsTrue (test x)) → IsTrue (every test xs)
-every_of test [] f = refl
-every_of test (x ∷ xs) f = both (test x) (every test xs) (f x (contains_head x xs)) (every_of test xs (λ y c. f y (contains_tail x y xs c)))
 
 any_head : (test : Exp → Bool) (x : Exp) (xs : List Exp) → IsTrue (test x) → IsTrue (list_any test (x ∷ xs))
 any_head test x xs h = ap (λ b. b || list_any test xs) h
@@ -168,26 +165,17 @@ module _ (items : List Item) (p : t.Program) (f : FunctionInfo) (law : CodeLaw) 
 
 -- ---- a claim site
 
-function_item : (items : List Item) (h : FunctionTree) → Contains (functions items) h → Contains items (i.Function h)
-function_item [] h c = absurd (contains_none h c)
-function_item (i.Struct s ∷ items) h c = contains_tail (i.Struct s) (i.Function h) items (function_item items h c)
-function_item (i.Function u ∷ items) h c =
-    elim (contains_cases u h (functions items) c) [
-      | inl g ↦ subst (λ z. Contains (i.Function u ∷ items) (i.Function z)) g (contains_head (i.Function u) items)
-      | inr k ↦ contains_tail (i.Function u) (i.Function h) items (function_item items h k)
-    ]
-
 quiet_body : (items : List Item) → Quiet (pieces.pieces items) → (h : FunctionTree) → Contains (functions items) h → Quiet (pieces.in_statements (in_function items h) h.body.all)
 quiet_body items quiet h c =
-    let all = quiet_tail (Program items) (flat_map (item items) items) quiet in
+    let all = quiet_rest (Program items) (flat_map (item items) items) quiet in
     let body = pieces.in_statements (in_function items h) h.body.all in
     let contract = flat_map (clause (in_function items h)) h.contract in
-    let own = quiet_tail (Function items h) (if_some (struct_name items) h.value ++ (types_of items h.parameters ++ (types_of items h.ghost_parameters ++ (contract ++ body)))) (quiet_part (item items) items (i.Function h) all (function_item items h c)) in
+    let own = quiet_rest (Function items h) (if_some (struct_name items) h.value ++ (types_of items h.parameters ++ (types_of items h.ghost_parameters ++ (contract ++ body)))) (quiet_part (item items) items (i.Function h) all (function_item items h c)) in
     quiet_right contract body (quiet_right (types_of items h.ghost_parameters) (contract ++ body) (quiet_right (types_of items h.parameters) (types_of items h.ghost_parameters ++ (contract ++ body)) (quiet_right (if_some (struct_name items) h.value) (types_of items h.parameters ++ (types_of items h.ghost_parameters ++ (contract ++ body))) own)))
 
 module _ (items : List Item) (law : CodeLaw) (all : Tables items (program items)) (info : FunctionInfo) (h : FunctionTree) (vars_are : info.variables ≡ map (variable items) (variables h)) (k : ℕ) (x : Site) (m : Made items info (around_function items h).names k x (λ j. all_tell (around_function items h) j h.body.all)) where
   said_pieces : Quiet (expressions m.context m.objects ++ expression (claim_property m.objects m.context) m.said)
-  said_pieces = quiet_tail (NewClaim m.context m.objects m.said) (expressions m.context m.objects ++ expression (claim_property m.objects m.context) m.said) m.quiet
+  said_pieces = quiet_rest (NewClaim m.context m.objects m.said) (expressions m.context m.objects ++ expression (claim_property m.objects m.context) m.said) m.quiet
 
   object_pieces : (o : Exp) → Contains m.objects o → Quiet (expression m.context (bare o))
   object_pieces o c = quiet_bare m.context o (quiet_part (expression m.context) m.objects o (quiet_left (expressions m.context m.objects) (expression (claim_property m.objects m.context) m.said) said_pieces) c)
@@ -202,7 +190,7 @@ module _ (items : List Item) (law : CodeLaw) (all : Tables items (program items)
   object_named (e.Name u) quiet f =
       let given = from_not (is_some (type_of_name m.context.scope u)) (not_placed _ u.place (quiet_last [] (Expression m.context (e.Name u)) quiet r.Undeclared)) in
       let v = name_known items (program items) info law all m.around m.in_code m.context m.scope_is m.in_ghost u given in
-      variable_named u v.0 v.1 (f u (name_itself u))
+      variable_named u v.0 v.1 (f u (own_name u))
   object_named (e.Null q) quiet f = refl
   object_named _ quiet f = refl
 
@@ -211,7 +199,7 @@ module _ (items : List Item) (law : CodeLaw) (all : Tables items (program items)
 
   objects_ok : (o : Exp) → Contains m.objects o → IsTrue (claimed_ok (program items) info (claimed m.around o))
   objects_ok o c =
-      let rules = quiet_head (NewClaim m.context m.objects m.said) (expressions m.context m.objects ++ expression (claim_property m.objects m.context) m.said) m.quiet in
+      let rules = quiet_first (NewClaim m.context m.objects m.said) (expressions m.context m.objects ++ expression (claim_property m.objects m.context) m.said) m.quiet in
       let fits = not_placed _ (first_place o) (flat_none (λ u. place_if (fail_together converts u.value u.wanted) u.place) (map (as_reference m.context) m.objects) (rules r.Conversion) (as_reference m.context o) (contains_map (as_reference m.context) m.objects o c)) in
       let claimable = not_placed _ (first_place o) (flat_none (λ z. place_if (fails may_be_claimed (kind m.context.scope z)) (first_place z)) m.objects (rules r.Claimed) o c) in
       object_ok items (program items) info law all m.around m.in_code m.context m.scope_is m.in_ghost (bare o) (code_bare o (every_member is_code m.objects o m.objects_form c)) (object_pieces o c)
@@ -257,21 +245,12 @@ module _ (items : List Item) (law : CodeLaw) (all : Tables items (program items)
         let all_ok = every_map (claimed_ok (program items) info) (claimed m.around) m.objects (every_of (λ o. claimed_ok (program items) info (claimed m.around o)) m.objects objects_ok) in
         let shapes_ok = every_map (λ c. shape_ok (slice_get (program items).shapes c.shape)) (conjunct l s) stated (every_of (λ w. shape_ok (slice_get (program items).shapes (conjunct l s w).shape)) stated conjunct_placed) in
         four (names_all (claim_site l s (site m.around k m.line m.objects m.said))) (every (claimed_ok (program items) info) (map (claimed m.around) m.objects)) (every (λ j. nat_lt j (length info.variables)) is) (every (λ c. shape_ok (slice_get (program items).shapes c.shape)) (map (conjunct l s) stated))
-        (both (every (claimed_named is) (map (claimed m.around) m.objects)) (every (λ c. every (hole_named is) c.holes) (map (conjunct l s) stated)) objects_are holes_are) all_ok variables_below shapes_ok
+        (and_both (every (claimed_named is) (map (claimed m.around) m.objects)) (every (λ c. every (hole_named is) c.holes) (map (conjunct l s) stated)) objects_are holes_are) all_ok variables_below shapes_ok
 
     made_passes : IsTrue (site_ok (program items) (Some info) (claim_site (shapes items) (function_sorts items h) x))
     made_passes = subst (λ z. IsTrue (site_ok (program items) (Some info) (claim_site (shapes items) (function_sorts items h) z))) (sym m.is) site_passes
 
 -- ---- the table of claim sites
-
-made_in : (x : Site) (told : List Told) → Contains (sites_told told) x → Contains told (Makes x)
-made_in x [] c = absurd (contains_none x c)
-made_in x (Says w ∷ more) c = contains_tail (Says w) (Makes x) more (made_in x more c)
-made_in x (Makes y ∷ more) c =
-    elim (contains_cases y x (sites_told more) c) [
-      | inl g ↦ subst (λ z. Contains (Makes y ∷ more) (Makes z)) g (contains_head (Makes y) more)
-      | inr k ↦ contains_tail (Makes y) (Makes x) more (made_in x more k)
-    ]
 
 -- claim sites of a program that breaks no rule are well formed
 pub claims_law : TablesLaw → SitesLaw → EntryLaw → CodeLaw → ClaimsLaw

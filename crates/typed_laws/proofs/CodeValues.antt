@@ -1,8 +1,8 @@
 -- Code that breaks no rule has values, which are those of its kind.
-use Rattle.std.proofs.Common.{◌≡◌, ℕ, ◌==◌, Bool, true, false, cond, not, ◌&&◌, ◌||◌, pos, int_le, List, [], ◌∷◌, ◌++◌, length, Option, Some, None, position, is_some, nat_lt, slice_get, bytes_eq, refl, sym, ap, ◌∙◌, subst, arith}
+use Rattle.std.proofs.Common.{◌≡◌, ℕ, ◌==◌, Bool, true, false, cond, not, ◌&&◌, ◌||◌, pos, int_le, List, [], ◌∷◌, ◌++◌, Option, Some, None, position, is_some, nat_lt, slice_get, bytes_eq, refl, sym, ap, ◌∙◌, subst}
 use Rattle.std.specs.Option.{option_map, option_and_then}
 use Rattle.std.proofs.lemmas.Bool.{true≢false}
-use Rattle.std.proofs.lemmas.List.Elements.{Contains-append_left, Contains-append_right}
+use Rattle.std.proofs.lemmas.Option.{same_Some}
 use Rattle.int_ranges.specs.declared.ctype.CType.{CType}
 use Rattle.int_ranges.specs.declared.ctype.CType.TheVariants as ints
 use Rattle.int_ranges.specs.Ranges.{least_of, greatest_of, usual_type}
@@ -18,13 +18,12 @@ use Rattle.c_types.specs.Contexts.{Context, Variable, deeper}
 use Rattle.c_types.specs.Types as types
 use Rattle.c_types.specs.Types.{Kind, is_integer, is_pointer, is_scalar, is_reference, kind_of, find_variable, find_own_field, variable_or_field, type_of_name, field_of, unary_fits, binary_fits, left_fits, right_fits, together_fit, branches, conditional_kind, kind}
 use Rattle.c_types.specs.TypeLaws.{Sound, Quiet}
-use Rattle.c_types.specs.Places.{place_if, fails}
+use Rattle.c_types.specs.Places.{fails}
 use Rattle.c_types.specs.Rules as r
 use Rattle.c_types.specs.Rules.{Rule}
 use Rattle.c_types.specs.Names.{may_have}
 use Rattle.c_types.specs.Operands.{misfit, branches_misfit}
-use Rattle.c_types.specs.Pieces.{Piece, Expression, operand, expression}
-use Rattle.c_types.specs.First.{places}
+use Rattle.c_types.specs.Pieces.{Expression, operand, expression}
 use Rattle.method.specs.declared.program.DeclaredType.TheVariants.{Pointer, Object, Claim}
 use Rattle.method.specs.declared.program.Operator.{Operator}
 use Rattle.method.specs.declared.program.Operator.TheVariants as operators
@@ -38,53 +37,15 @@ use Rattle.typed_program.specs.Codes.{Operand, integer_of, integer_type, holds_a
 use Rattle.typed_program.specs.Codes as codes
 use Rattle.typed_program.specs.Tables.{field, variable}
 use Rattle.tree_forms.specs.InForm.{of_code, is_code}
+use Rattle.typed_laws.proofs.Basics.{and_both, and_left, and_right, from_not, or_second, neither, nat_itself, none_below, not_none, same_bytes, find_passes, find_in, find_place}
+use Rattle.typed_laws.proofs.Quiet.{quiet_left, quiet_right, quiet_last, not_placed}
 use Rattle.typed_laws.proofs.Tests.{values, field_values}
+use Rattle.typed_laws.proofs.Order.{least_below, lesser_above, greater_below}
 use Rattle.typed_laws.proofs.Facts.{Tables, InCode, Within, Agrees}
 use Rattle.typed_laws.proofs.Goals.{CodeLaw}
-use Rattle.typed_laws.proofs.Order.{chain, both, left, right, at_itself, least_below, lesser_above, greater_below}
-use Rattle.typed_laws.proofs.Found as found
-use Rattle.typed_laws.proofs.Found.{not_none, some_is, find_passes, find_in, find_place, same_bytes, none_below, all_within, type_valued}
+use Rattle.typed_laws.proofs.Found.{all_within, type_valued, widened, within_ints, struct_by_name}
 
--- ---- lists and tests
-
-pub quiet_left : (xs ys : List Piece) → Quiet (xs ++ ys) → Quiet xs
-quiet_left xs ys h x c = h x (Contains-append_left xs ys x c)
-
-pub quiet_right : (xs ys : List Piece) → Quiet (xs ++ ys) → Quiet ys
-quiet_right xs ys h x c = h x (Contains-append_right xs ys x c)
-
-pub quiet_last : (xs : List Piece) (x : Piece) → Quiet (xs ++ (x ∷ [])) → (rule : Rule) → places rule x ≡ []
-quiet_last xs x h = h x (Contains-append_right xs (x ∷ []) x (found.head_in x []))
-
-pub not_placed : (b : Bool) (p : Span) → place_if b p ≡ [] → b ≡ false
-not_placed true p h = absurd (omega (arith, ap length h))
-not_placed false p h = refl
-
-from_not : (b : Bool) → not b ≡ false → b ≡ true
-from_not true h = refl
-from_not false h = absurd (true≢false h)
-
-or_right : (a b : Bool) → b ≡ true → (a || b) ≡ true
-or_right true b h = refl
-or_right false b h = h
-
-neither : (a b : Bool) → (a || b) ≡ false → (a ≡ false) × (b ≡ false)
-neither true b h = absurd (true≢false h)
-neither false b h = (refl, h)
-
--- ---- integers of one type are those of another
-
-widened : (to from : CType) (v : Values) → holds_all to from ≡ true → Within from v → Within to v
-widened to from (Ints l h) e w =
-    both (int_le (least_of to) l) (int_le h (greatest_of to)) (chain (least_of to) (least_of from) l (left (int_le (least_of to) (least_of from)) (int_le (greatest_of from) (greatest_of to)) e) (left (int_le (least_of from) l) (int_le h (greatest_of from)) w))
-    (chain h (greatest_of from) (greatest_of to) (right (int_le (least_of from) l) (int_le h (greatest_of from)) w) (right (int_le (least_of to) (least_of from)) (int_le (greatest_of from) (greatest_of to)) e))
-widened to from Nulls e w = absurd w
-widened to from (Refs ty) e w = absurd w
-
-pub within_ints : (c : CType) (v : Values) → Within c v → are_ints v ≡ true
-within_ints c (Ints l h) w = refl
-within_ints c Nulls w = absurd w
-within_ints c (Refs ty) w = absurd w
+-- ---- the values of a kind
 
 module _ (items : List Rattle.c_syntax.specs.Items.Item) where
   pub as_int : (k : Kind) (c : CType) (v : Values) → is_integer k ≡ true → Agrees items k c v → Within c v
@@ -112,10 +73,6 @@ module _ (items : List Rattle.c_syntax.specs.Items.Item) where
     pub sound : Sound items m
     pub agrees : Agrees items m c which
 
-  -- the same struct has one number
-  one_of : (s u : StructTree) → same_name s.name u.name ≡ true → struct_number items s.name ≡ struct_number items u.name
-  one_of s u h = found.one_number items s.name u.name (same_bytes s.name u.name h)
-
   pointers : (s u : StructTree) (m : Kind) (c : CType) → Sound items (types.Pointer s) → Sound items (types.Pointer u) → branches (types.Pointer s) (types.Pointer u) ≡ Some m →
       Branched m c (Refs (Pointer (struct_number items s.name))) (Refs (Pointer (struct_number items u.name)))
   pointers s u m c hs hu h = by (same_name s.name u.name) refl (same_name u.name s.name) refl h
@@ -127,12 +84,12 @@ module _ (items : List Rattle.c_syntax.specs.Items.Item) where
       o = struct_number items u.name
 
       one : n ≡ o → either (Refs (Pointer n)) (Refs (Pointer o)) ≡ Some (Refs (Pointer o))
-      one q = ap (λ b. cond b (Some (Refs (Pointer o))) (cond (o == n) (Some (Refs (Pointer n))) None)) (subst (λ j. (n == j) ≡ true) q (at_itself n))
+      one q = ap (λ b. cond b (Some (Refs (Pointer o))) (cond (o == n) (Some (Refs (Pointer n))) None)) (subst (λ j. (n == j) ≡ true) q (nat_itself n))
 
       by : (a : Bool) → same_name s.name u.name ≡ a → (b : Bool) → same_name u.name s.name ≡ b → cond a (Some (types.Pointer u)) (cond b (Some (types.Pointer s)) None) ≡ Some m → Branched m c (Refs (Pointer n)) (Refs (Pointer o))
-      by true ea b eb g = subst (λ z. Branched z c (Refs (Pointer n)) (Refs (Pointer o))) (some_is (types.Pointer u) m g) (record { which = Refs (Pointer o); is = one (one_of s u ea); sound = hu; agrees = refl })
+      by true ea b eb g = subst (λ z. Branched z c (Refs (Pointer n)) (Refs (Pointer o))) (same_Some (types.Pointer u) m g) (record { which = Refs (Pointer o); is = one (struct_by_name items s u ea); sound = hu; agrees = refl })
       by false ea true eb g =
-          subst (λ z. Branched z c (Refs (Pointer n)) (Refs (Pointer o))) (some_is (types.Pointer s) m g) (record { which = Refs (Pointer o); is = one (sym (one_of u s eb)); sound = hs; agrees = ap (λ j. Refs (Pointer j)) (one_of u s eb) })
+          subst (λ z. Branched z c (Refs (Pointer n)) (Refs (Pointer o))) (same_Some (types.Pointer s) m g) (record { which = Refs (Pointer o); is = one (sym (struct_by_name items u s eb)); sound = hs; agrees = ap (λ j. Refs (Pointer j)) (struct_by_name items u s eb) })
       by false ea false eb g = not_none m g
 
   -- two integers
@@ -142,8 +99,8 @@ module _ (items : List Rattle.c_syntax.specs.Items.Item) where
         which = Ints (lesser a d) (greater b e);
         is = refl;
         sound = tt;
-        agrees = both (int_le (least_of c) (lesser a d)) (int_le (greater b e) (greatest_of c)) (lesser_above a d (least_of c) (left (int_le (least_of c) a) (int_le b (greatest_of c)) h) (left (int_le (least_of c) d) (int_le e (greatest_of c)) g))
-            (greater_below b e (greatest_of c) (right (int_le (least_of c) a) (int_le b (greatest_of c)) h) (right (int_le (least_of c) d) (int_le e (greatest_of c)) g));
+        agrees = and_both (int_le (least_of c) (lesser a d)) (int_le (greater b e) (greatest_of c)) (lesser_above a d (least_of c) (and_left (int_le (least_of c) a) (int_le b (greatest_of c)) h) (and_left (int_le (least_of c) d) (int_le e (greatest_of c)) g))
+            (greater_below b e (greatest_of c) (and_right (int_le (least_of c) a) (int_le b (greatest_of c)) h) (and_right (int_le (least_of c) d) (int_le e (greatest_of c)) g));
       }
   ints_branch c (Ints a b) Nulls h g = absurd g
   ints_branch c (Ints a b) (Refs ty) h g = absurd g
@@ -152,10 +109,10 @@ module _ (items : List Rattle.c_syntax.specs.Items.Item) where
 
   -- references of known values
   known_branch : (m n : Kind) (c : CType) (v w x y : Values) → Sound items m → v ≡ x → w ≡ y → Some m ≡ Some n → Branched m c x y → Branched n c v w
-  known_branch m n c v w x y hm ev ew em b = subst (λ z. Branched z c v w) (some_is m n em) (subst (λ z. Branched m c z w) (sym ev) (subst (λ z. Branched m c x z) (sym ew) b))
+  known_branch m n c v w x y hm ev ew em b = subst (λ z. Branched z c v w) (same_Some m n em) (subst (λ z. Branched m c z w) (sym ev) (subst (λ z. Branched m c x z) (sym ew) b))
 
   pub branch_values : (k l m : Kind) (c : CType) (v w : Values) → Sound items k → Sound items l → Agrees items k c v → Agrees items l c w → branches k l ≡ Some m → Branched m c v w
-  branch_values types.Integer types.Integer m c v w hk hl av aw h = subst (λ z. Branched z c v w) (some_is types.Integer m h) (ints_branch c v w av aw)
+  branch_values types.Integer types.Integer m c v w hk hl av aw h = subst (λ z. Branched z c v w) (same_Some types.Integer m h) (ints_branch c v w av aw)
   branch_values types.Integer types.Null m c v w hk hl av aw h = not_none m h
   branch_values types.Integer (types.Pointer u) m c v w hk hl av aw h = not_none m h
   branch_values types.Integer types.Object m c v w hk hl av aw h = not_none m h
@@ -191,7 +148,14 @@ module _ (items : List Rattle.c_syntax.specs.Items.Item) where
 
 -- ---- expressions
 
-binary_true : (o : BinaryOperator) (k l : Kind) → misfit o (Some k) (Some l) ≡ false → (left_fits o k ≡ true) × (right_fits o l ≡ true) × (together_fit o k l ≡ true)
+pub branch_of : (i j k : Kind) → branches_misfit (Some i) (Some j) (Some k) ≡ false → (m : Kind) × (branches j k ≡ Some m) × (is_scalar i ≡ true)
+branch_of i j k h = let d = neither (not (is_scalar i)) (not (is_some (branches j k))) h in by (branches j k) refl (from_not (is_some (branches j k)) d.1) (from_not (is_scalar i) d.0)
+  where
+    by : (o : Option Kind) → branches j k ≡ o → is_some o ≡ true → is_scalar i ≡ true → (m : Kind) × (branches j k ≡ Some m) × (is_scalar i ≡ true)
+    by None g s d = absurd (true≢false (sym s))
+    by (Some m) g s d = (m, g, d)
+
+pub binary_true : (o : BinaryOperator) (k l : Kind) → misfit o (Some k) (Some l) ≡ false → (left_fits o k ≡ true) × (right_fits o l ≡ true) × (together_fit o k l ≡ true)
 binary_true o k l h =
     let one = neither (not (left_fits o k)) (not (right_fits o l) || not (together_fit o k l)) h in
     let two = neither (not (right_fits o l)) (not (together_fit o k l)) one.1 in
@@ -255,7 +219,7 @@ module _ (p : Program) (f : FunctionInfo) (a : Around) (tables : Tables a.contex
             kinded = ap (option_and_then (λ k. option_and_then (λ u. kind_of a.context.scope.items u.ty) (field_of k y))) kx ∙ ap (option_and_then (λ u. kind_of a.context.scope.items u.ty)) d ∙ type.is;
             sound = type.sound;
             valued = ap (λ o. and_then o (λ u. field_values u (slice_get p.fields (field_at a x y)))) (vx ∙ ap (λ u. Some u) ax) ∙ ap (λ i. field_values (Refs (Pointer (struct_number a.context.scope.items s.name))) (slice_get p.fields i)) at_kind ∙ ap (field_values (Refs (Pointer (struct_number a.context.scope.items s.name)))) info
-                ∙ ap (λ b. only_if b (declared (field a.context.scope.items s w).ty)) (at_itself (struct_number a.context.scope.items s.name));
+                ∙ ap (λ b. only_if b (declared (field a.context.scope.items s w).ty)) (nat_itself (struct_number a.context.scope.items s.name));
             agrees = subst (λ c. Agrees a.context.scope.items type.kind c (declared (field a.context.scope.items s w).ty)) (sym (ap integer_of (ap (option_map (λ u. u.ty)) named))) type.agrees;
           }
   field_valued q x y types.Integer v kx sx vx ax h g = absurd (true≢false h)
@@ -327,7 +291,7 @@ module _ (p : Program) (f : FunctionInfo) (a : Around) (tables : Tables a.contex
   binary_kind q o x y w z h =
       let d = both_fit o x y w z h in
       ap (option_and_then (λ k. option_and_then (λ l. types.only_if (binary_fits o k l) types.Integer) (kind a.context.scope y))) w.kinded ∙ ap (option_and_then (λ l. types.only_if (binary_fits o w.kind_is l) types.Integer)) z.kinded
-      ∙ ap (λ b. types.only_if b types.Integer) (both (left_fits o w.kind_is) (right_fits o z.kind_is && together_fit o w.kind_is z.kind_is) d.0 (both (right_fits o z.kind_is) (together_fit o w.kind_is z.kind_is) d.1 d.2))
+      ∙ ap (λ b. types.only_if b types.Integer) (and_both (left_fits o w.kind_is) (right_fits o z.kind_is && together_fit o w.kind_is z.kind_is) d.0 (and_both (right_fits o z.kind_is) (together_fit o w.kind_is z.kind_is) d.1 d.2))
 
   -- the code of an operation of arithmetic has all values of its type
   computed : (o : Operator) (x y : Exp) (w : IsValued x) (z : IsValued y) → is_integer w.kind_is ≡ true → is_integer z.kind_is ≡ true →
@@ -339,7 +303,7 @@ module _ (p : Program) (f : FunctionInfo) (a : Around) (tables : Tables a.contex
       let us = within_ints to u.values_are (as_int a.context.scope.items w.kind_is to u.values_are h u.agrees) in
       let vs = within_ints to v.values_are (as_int a.context.scope.items z.kind_is to v.values_are g v.agrees) in
       ap (λ i. and_then i (λ m. and_then (values p f (in_type_of to (operand_of a.context.scope y (code a y)))) (λ n. only_if (are_ints m && are_ints n) (all_of to)))) u.valued
-      ∙ ap (λ i. and_then i (λ n. only_if (are_ints u.values_are && are_ints n) (all_of to))) v.valued ∙ ap (λ b. only_if b (all_of to)) (both (are_ints u.values_are) (are_ints v.values_are) us vs)
+      ∙ ap (λ i. and_then i (λ n. only_if (are_ints u.values_are && are_ints n) (all_of to))) v.valued ∙ ap (λ b. only_if b (all_of to)) (and_both (are_ints u.values_are) (are_ints v.values_are) us vs)
 
   arithmetic_valued : (q : Span) (o : BinaryOperator) (r : Operator) (x y : Exp) (w : IsValued x) (z : IsValued y) → codes.binary o ≡ codes.Computes r → left_fits o w.kind_is ≡ is_integer w.kind_is → right_fits o z.kind_is ≡ is_integer z.kind_is →
       misfit o (kind a.context.scope x) (kind a.context.scope y) ≡ false → IsValued (e.Binary q o x y)
@@ -368,15 +332,15 @@ module _ (p : Program) (f : FunctionInfo) (a : Around) (tables : Tables a.contex
       by : (to : CType) (u : InType x w.kind_is to) (v : InType y z.kind_is to) (b : Bool) → (is_integer w.kind_is && is_integer z.kind_is) ≡ b → (b || (compares_refs o && (is_reference w.kind_is && is_reference z.kind_is))) ≡ true →
           ((are_ints u.values_are && are_ints v.values_are) || (compares_refs o && (are_refs u.values_are && are_refs v.values_are))) ≡ true
       by to u v true b g =
-          let us = within_ints to u.values_are (as_int a.context.scope.items w.kind_is to u.values_are (left (is_integer w.kind_is) (is_integer z.kind_is) b) u.agrees) in
-          let vs = within_ints to v.values_are (as_int a.context.scope.items z.kind_is to v.values_are (right (is_integer w.kind_is) (is_integer z.kind_is) b) v.agrees) in
-          ap (λ c. c || (compares_refs o && (are_refs u.values_are && are_refs v.values_are))) (both (are_ints u.values_are) (are_ints v.values_are) us vs)
+          let us = within_ints to u.values_are (as_int a.context.scope.items w.kind_is to u.values_are (and_left (is_integer w.kind_is) (is_integer z.kind_is) b) u.agrees) in
+          let vs = within_ints to v.values_are (as_int a.context.scope.items z.kind_is to v.values_are (and_right (is_integer w.kind_is) (is_integer z.kind_is) b) v.agrees) in
+          ap (λ c. c || (compares_refs o && (are_refs u.values_are && are_refs v.values_are))) (and_both (are_ints u.values_are) (are_ints v.values_are) us vs)
       by to u v false b g =
-          let refs = right (compares_refs o) (is_reference w.kind_is && is_reference z.kind_is) g in
-          let us = as_refs a.context.scope.items w.kind_is to u.values_are (left (is_reference w.kind_is) (is_reference z.kind_is) refs) u.agrees in
-          let vs = as_refs a.context.scope.items z.kind_is to v.values_are (right (is_reference w.kind_is) (is_reference z.kind_is) refs) v.agrees in
-          or_right (are_ints u.values_are && are_ints v.values_are) (compares_refs o && (are_refs u.values_are && are_refs v.values_are))
-          (both (compares_refs o) (are_refs u.values_are && are_refs v.values_are) (left (compares_refs o) (is_reference w.kind_is && is_reference z.kind_is) g) (both (are_refs u.values_are) (are_refs v.values_are) us vs))
+          let refs = and_right (compares_refs o) (is_reference w.kind_is && is_reference z.kind_is) g in
+          let us = as_refs a.context.scope.items w.kind_is to u.values_are (and_left (is_reference w.kind_is) (is_reference z.kind_is) refs) u.agrees in
+          let vs = as_refs a.context.scope.items z.kind_is to v.values_are (and_right (is_reference w.kind_is) (is_reference z.kind_is) refs) v.agrees in
+          or_second (are_ints u.values_are && are_ints v.values_are) (compares_refs o && (are_refs u.values_are && are_refs v.values_are))
+          (and_both (compares_refs o) (are_refs u.values_are && are_refs v.values_are) (and_left (compares_refs o) (is_reference w.kind_is && is_reference z.kind_is) g) (and_both (are_refs u.values_are) (are_refs v.values_are) us vs))
 
   -- of two integers, or of two references
   comparison_valued : (q : Span) (o : BinaryOperator) (r : Comparison) (x y : Exp) (w : IsValued x) (z : IsValued y) → codes.binary o ≡ codes.Compares r →
@@ -392,7 +356,7 @@ module _ (p : Program) (f : FunctionInfo) (a : Around) (tables : Tables a.contex
   }
 
   order_fits : (k l : Kind) (c : Comparison) → is_integer k ≡ true → is_integer l ≡ true → ((is_integer k && is_integer l) || (compares_refs c && (is_reference k && is_reference l))) ≡ true
-  order_fits k l c h g = ap (λ b. b || (compares_refs c && (is_reference k && is_reference l))) (both (is_integer k) (is_integer l) h g)
+  order_fits k l c h g = ap (λ b. b || (compares_refs c && (is_reference k && is_reference l))) (and_both (is_integer k) (is_integer l) h g)
 
   logic_valued : (q : Span) (o : BinaryOperator) (x y : Exp) (w : IsValued x) (z : IsValued y) → values p f (code a (e.Binary q o x y)) ≡ and_then (values p f (code a x)) (λ v. and_then (values p f (code a y)) (λ u. Some truth_values)) →
       integer_type a.context.scope (e.Binary q o x y) ≡ ints.Int → misfit o (kind a.context.scope x) (kind a.context.scope y) ≡ false → IsValued (e.Binary q o x y)
@@ -425,13 +389,6 @@ module _ (p : Program) (f : FunctionInfo) (a : Around) (tables : Tables a.contex
 
   -- ---- `?:`
 
-  branch_of : (i j k : Kind) → branches_misfit (Some i) (Some j) (Some k) ≡ false → (m : Kind) × (branches j k ≡ Some m) × (is_scalar i ≡ true)
-  branch_of i j k h = let d = neither (not (is_scalar i)) (not (is_some (branches j k))) h in by (branches j k) refl (from_not (is_some (branches j k)) d.1) (from_not (is_scalar i) d.0)
-    where
-      by : (o : Option Kind) → branches j k ≡ o → is_some o ≡ true → is_scalar i ≡ true → (m : Kind) × (branches j k ≡ Some m) × (is_scalar i ≡ true)
-      by None g s t = absurd (true≢false (sym s))
-      by (Some m) g s t = (m, g, t)
-
   conditional_valued : (q : Span) (x y z : Exp) → IsValued x → IsValued y → IsValued z → branches_misfit (kind a.context.scope x) (kind a.context.scope y) (kind a.context.scope z) ≡ false → IsValued (e.Conditional q x y z)
   conditional_valued q x y z u v w h =
       let known = subst (λ i. branches_misfit (Some u.kind_is) (Some v.kind_is) i ≡ false) w.kinded (subst (λ i. branches_misfit (Some u.kind_is) i (kind a.context.scope z) ≡ false) v.kinded (subst (λ i. branches_misfit i (kind a.context.scope y) (kind a.context.scope z) ≡ false) u.kinded h)) in
@@ -454,7 +411,7 @@ module _ (p : Program) (f : FunctionInfo) (a : Around) (tables : Tables a.contex
   -- ---- all forms
 
   expression_valued : (c : Context) (x : Exp) → is_code x ≡ true → Quiet (expression (record c { scope = a.context.scope }) x) → IsValued x
-  expression_valued c (e.Number q n ty) k h = record { kind_is = types.Integer; values_are = Ints (pos n) (pos n); kinded = refl; sound = tt; valued = refl; agrees = both (int_le (least_of ty) (pos n)) (int_le (pos n) (greatest_of ty)) (least_below ty n) k }
+  expression_valued c (e.Number q n ty) k h = record { kind_is = types.Integer; values_are = Ints (pos n) (pos n); kinded = refl; sound = tt; valued = refl; agrees = and_both (int_le (least_of ty) (pos n)) (int_le (pos n) (greatest_of ty)) (least_below ty n) k }
   expression_valued c (e.Name x) k h =
       name_valued x (from_not (is_some (type_of_name a.context.scope x)) (not_placed (not (is_some (type_of_name a.context.scope x))) x.place (quiet_last [] (Expression (record c { scope = a.context.scope }) (e.Name x)) h r.Undeclared)))
   expression_valued c (e.Null q) k h = record { kind_is = types.Null; values_are = Nulls; kinded = refl; sound = tt; valued = refl; agrees = refl }
@@ -478,16 +435,16 @@ module _ (p : Program) (f : FunctionInfo) (a : Around) (tables : Tables a.contex
   expression_valued c (e.Binary q o x y) k h =
       let d = record c { scope = a.context.scope } in
       let inner = quiet_left (expression (operand o d) x ++ expression (operand o d) y) (Expression d (e.Binary q o x y) ∷ []) h in
-      let w = expression_valued (operand o c) x (left (is_code x) (is_code y) (right (of_code o) (is_code x && is_code y) k)) (quiet_left (expression (operand o d) x) (expression (operand o d) y) inner) in
-      let z = expression_valued (operand o c) y (right (is_code x) (is_code y) (right (of_code o) (is_code x && is_code y) k)) (quiet_right (expression (operand o d) x) (expression (operand o d) y) inner) in
-      binary_valued q o x y w z (left (of_code o) (is_code x && is_code y) k) (not_placed (misfit o (kind a.context.scope x) (kind a.context.scope y)) q (quiet_last (expression (operand o d) x ++ expression (operand o d) y) (Expression d (e.Binary q o x y)) h r.Operands))
+      let w = expression_valued (operand o c) x (and_left (is_code x) (is_code y) (and_right (of_code o) (is_code x && is_code y) k)) (quiet_left (expression (operand o d) x) (expression (operand o d) y) inner) in
+      let z = expression_valued (operand o c) y (and_right (is_code x) (is_code y) (and_right (of_code o) (is_code x && is_code y) k)) (quiet_right (expression (operand o d) x) (expression (operand o d) y) inner) in
+      binary_valued q o x y w z (and_left (of_code o) (is_code x && is_code y) k) (not_placed (misfit o (kind a.context.scope x) (kind a.context.scope y)) q (quiet_last (expression (operand o d) x ++ expression (operand o d) y) (Expression d (e.Binary q o x y)) h r.Operands))
   expression_valued c (e.Conditional q x y z) k h =
       let d = record c { scope = a.context.scope } in
       let inner = quiet_left (expression (deeper d) x ++ (expression (deeper d) y ++ expression (deeper d) z)) (Expression d (e.Conditional q x y z) ∷ []) h in
       let two = quiet_right (expression (deeper d) x) (expression (deeper d) y ++ expression (deeper d) z) inner in
-      let u = expression_valued (deeper c) x (left (is_code x) (is_code y && is_code z) k) (quiet_left (expression (deeper d) x) (expression (deeper d) y ++ expression (deeper d) z) inner) in
-      let v = expression_valued (deeper c) y (left (is_code y) (is_code z) (right (is_code x) (is_code y && is_code z) k)) (quiet_left (expression (deeper d) y) (expression (deeper d) z) two) in
-      let w = expression_valued (deeper c) z (right (is_code y) (is_code z) (right (is_code x) (is_code y && is_code z) k)) (quiet_right (expression (deeper d) y) (expression (deeper d) z) two) in
+      let u = expression_valued (deeper c) x (and_left (is_code x) (is_code y && is_code z) k) (quiet_left (expression (deeper d) x) (expression (deeper d) y ++ expression (deeper d) z) inner) in
+      let v = expression_valued (deeper c) y (and_left (is_code y) (is_code z) (and_right (is_code x) (is_code y && is_code z) k)) (quiet_left (expression (deeper d) y) (expression (deeper d) z) two) in
+      let w = expression_valued (deeper c) z (and_right (is_code y) (is_code z) (and_right (is_code x) (is_code y && is_code z) k)) (quiet_right (expression (deeper d) y) (expression (deeper d) z) two) in
       conditional_valued q x y z u v w (not_placed (branches_misfit (kind a.context.scope x) (kind a.context.scope y) (kind a.context.scope z)) q (quiet_last (expression (deeper d) x ++ (expression (deeper d) y ++ expression (deeper d) z)) (Expression d (e.Conditional q x y z)) h r.Operands))
   expression_valued c _ k h = absurd (true≢false (sym k))
 

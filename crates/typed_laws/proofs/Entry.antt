@@ -1,5 +1,5 @@
 -- What stands around a function's body, and around a struct's invariants, and that what is declared has types.
-use Rattle.std.proofs.Common.{◌≡◌, ℕ, ◌⊎◌, inl, inr, zero, suc, Bool, true, false, List, [], ◌∷◌, ◌++◌, map, flat_map, Option, Some, None, Contains, refl, sym, ◌∙◌, subst, arith}
+use Rattle.std.proofs.Common.{◌≡◌, ℕ, ◌⊎◌, inl, inr, Bool, true, false, List, [], ◌∷◌, ◌++◌, map, flat_map, Option, Some, None, Contains, refl, sym, ◌∙◌, subst}
 use Rattle.std.proofs.lemmas.List.Elements.{Contains-append_left, Contains-append_right}
 use Rattle.c_syntax.specs.declared.token.Span.{Span}
 use Rattle.c_syntax.specs.Expressions.{Ty}
@@ -14,68 +14,44 @@ use Rattle.c_types.specs.First.{IsWellTyped}
 use Rattle.typed_program.specs.Trees.{FunctionInfo}
 use Rattle.typed_program.specs.Variables.{parameter, variables, all_declared}
 use Rattle.typed_program.specs.Tables.{around_function}
+use Rattle.typed_laws.proofs.Basics.{contains_head, contains_tail, contains_cases, contains_none, contains_map, to_flat_map}
+use Rattle.typed_laws.proofs.Quiet.{quiet_item, quiet_rest, quiet_left, quiet_right}
 use Rattle.typed_laws.proofs.Facts.{InCode, FunctionOf}
-use Rattle.typed_laws.proofs.Found.{head_in, tail_in}
-use Rattle.typed_laws.proofs.Quiet.{quiet_item}
-
-cases_in : {A : Type 0} (x y : A) (xs : List A) → Contains (x ∷ xs) y → (x ≡ y) ⊎ Contains xs y
-cases_in x y xs (zero, l, q) = inl q
-cases_in x y xs (suc j, l, q) = inr (j, omega arith, q)
-
-none_in : {A : Type 0} {P : Type 0} (y : A) → Contains [] y → P
-none_in y c = absurd (omega (arith, c.1))
-
-in_flat : {A B : Type 0} (f : A → List B) (xs : List A) (x : A) (y : B) → Contains xs x → Contains (f x) y → Contains (flat_map f xs) y
-in_flat f [] x y c d = none_in x c
-in_flat f (z ∷ xs) x y c d =
-    elim (cases_in z x xs c) [
-      | inl q ↦ Contains-append_left (f z) (flat_map f xs) y (subst (λ w. Contains (f w) y) (sym q) d)
-      | inr q ↦ Contains-append_right (f z) (flat_map f xs) y (in_flat f xs x y q d)
-    ]
 
 -- ---- items
 
 pub struct_item : (items : List Item) (s : StructTree) → Contains (structs items) s → Contains items (i.Struct s)
-struct_item [] s c = none_in s c
-struct_item (i.Struct u ∷ items) s c = elim (cases_in u s (structs items) c) [ inl q ↦ subst (λ w. Contains (i.Struct u ∷ items) (i.Struct w)) q (head_in (i.Struct u) items) | inr q ↦ tail_in (i.Struct u) (i.Struct s) items (struct_item items s q) ]
-struct_item (i.Function h ∷ items) s c = tail_in (i.Function h) (i.Struct s) items (struct_item items s c)
+struct_item [] s c = absurd (contains_none s c)
+struct_item (i.Struct u ∷ items) s c = elim (contains_cases u s (structs items) c) [ inl q ↦ subst (λ w. Contains (i.Struct u ∷ items) (i.Struct w)) q (contains_head (i.Struct u) items) | inr q ↦ contains_tail (i.Struct u) (i.Struct s) items (struct_item items s q) ]
+struct_item (i.Function h ∷ items) s c = contains_tail (i.Function h) (i.Struct s) items (struct_item items s c)
 
 pub function_item : (items : List Item) (h : FunctionTree) → Contains (functions items) h → Contains items (i.Function h)
-function_item [] h c = none_in h c
-function_item (i.Struct u ∷ items) h c = tail_in (i.Struct u) (i.Function h) items (function_item items h c)
+function_item [] h c = absurd (contains_none h c)
+function_item (i.Struct u ∷ items) h c = contains_tail (i.Struct u) (i.Function h) items (function_item items h c)
 function_item (i.Function g ∷ items) h c =
-    elim (cases_in g h (functions items) c) [ inl q ↦ subst (λ w. Contains (i.Function g ∷ items) (i.Function w)) q (head_in (i.Function g) items) | inr q ↦ tail_in (i.Function g) (i.Function h) items (function_item items h q) ]
+    elim (contains_cases g h (functions items) c) [ inl q ↦ subst (λ w. Contains (i.Function g ∷ items) (i.Function w)) q (contains_head (i.Function g) items) | inr q ↦ contains_tail (i.Function g) (i.Function h) items (function_item items h q) ]
 
-field_member : (ms : List Member) (g : FieldTree) → Contains (fields ms) g → Contains ms (i.Field g)
-field_member [] g c = none_in g c
-field_member (i.Field f ∷ ms) g c = elim (cases_in f g (fields ms) c) [ inl q ↦ subst (λ w. Contains (i.Field f ∷ ms) (i.Field w)) q (head_in (i.Field f) ms) | inr q ↦ tail_in (i.Field f) (i.Field g) ms (field_member ms g q) ]
-field_member (i.Invariant x ∷ ms) g c = tail_in (i.Invariant x) (i.Field g) ms (field_member ms g c)
+pub field_member : (ms : List Member) (g : FieldTree) → Contains (fields ms) g → Contains ms (i.Field g)
+field_member [] g c = absurd (contains_none g c)
+field_member (i.Field f ∷ ms) g c = elim (contains_cases f g (fields ms) c) [ inl q ↦ subst (λ w. Contains (i.Field f ∷ ms) (i.Field w)) q (contains_head (i.Field f) ms) | inr q ↦ contains_tail (i.Field f) (i.Field g) ms (field_member ms g q) ]
+field_member (i.Invariant x ∷ ms) g c = contains_tail (i.Invariant x) (i.Field g) ms (field_member ms g c)
 
 module _ (items : List Item) (end : Span) (typed : IsWellTyped items end) where
   -- the members of a struct break no rule
   pub members_quiet : (s : StructTree) → Contains (structs items) s → Quiet (flat_map (member items s) s.members)
-  members_quiet s c y d = quiet_item items end typed (i.Struct s) (struct_item items s c) y (tail_in (Struct items s) y (flat_map (member items s) s.members) d)
+  members_quiet s c y d = quiet_item items end typed (i.Struct s) (struct_item items s c) y (contains_tail (Struct items s) y (flat_map (member items s) s.members) d)
 
   pub fields_typed : (s : StructTree) (g : FieldTree) → Contains (structs items) s → Contains (fields s.members) g → Typed items (kind_of items g.ty)
-  fields_typed s g c d = type_typed items g.ty (λ y h. members_quiet s c y (in_flat (member items s) s.members (i.Field g) y (field_member s.members g d) h))
+  fields_typed s g c d = type_typed items g.ty (λ y h. members_quiet s c y (to_flat_map (member items s) s.members (i.Field g) y (field_member s.members g d) h))
 
   -- what stands around a struct's invariants has types
   pub struct_known : (s : StructTree) → Contains (structs items) s → IsKnown (in_struct items s).scope
-  struct_known s c = record { variables_typed = λ v h. none_in v h; fields_typed = fields_typed; this_declared = c; result_typed = tt }
+  struct_known s c = record { variables_typed = λ v h. absurd (contains_none v h); fields_typed = fields_typed; this_declared = c; result_typed = tt }
 
   -- ---- functions
 
   function_quiet : (h : FunctionTree) → Contains (functions items) h → Quiet (function items h)
   function_quiet h c = quiet_item items end typed (i.Function h) (function_item items h c)
-
-  behind_first : (x : Piece) (xs : List Piece) → Quiet (x ∷ xs) → Quiet xs
-  behind_first x xs h y c = h y (tail_in x y xs c)
-
-  first_part : (xs ys : List Piece) → Quiet (xs ++ ys) → Quiet xs
-  first_part xs ys h y c = h y (Contains-append_left xs ys y c)
-
-  second_part : (xs ys : List Piece) → Quiet (xs ++ ys) → Quiet ys
-  second_part xs ys h y c = h y (Contains-append_right xs ys y c)
 
   module _ (h : FunctionTree) (c : Contains (functions items) h) where
     abbrev behind_types : List Piece
@@ -85,35 +61,35 @@ module _ (items : List Item) (end : Span) (typed : IsWellTyped items end) where
     behind_parameters = types_of items h.ghost_parameters ++ behind_types
 
     parts_quiet : Quiet (if_some (struct_name items) h.value ++ (types_of items h.parameters ++ behind_parameters))
-    parts_quiet = behind_first (Function items h) (if_some (struct_name items) h.value ++ (types_of items h.parameters ++ behind_parameters)) (function_quiet h c)
+    parts_quiet = quiet_rest (Function items h) (if_some (struct_name items) h.value ++ (types_of items h.parameters ++ behind_parameters)) (function_quiet h c)
 
     types_quiet : Quiet (types_of items h.parameters ++ behind_parameters)
-    types_quiet = second_part (if_some (struct_name items) h.value) (types_of items h.parameters ++ behind_parameters) parts_quiet
+    types_quiet = quiet_right (if_some (struct_name items) h.value) (types_of items h.parameters ++ behind_parameters) parts_quiet
 
     ghost_types_quiet : Quiet behind_parameters
-    ghost_types_quiet = second_part (types_of items h.parameters) behind_parameters types_quiet
+    ghost_types_quiet = quiet_right (types_of items h.parameters) behind_parameters types_quiet
 
     rest_quiet : Quiet behind_types
-    rest_quiet = second_part (types_of items h.ghost_parameters) behind_types ghost_types_quiet
+    rest_quiet = quiet_right (types_of items h.ghost_parameters) behind_types ghost_types_quiet
 
     pub body_quiet : Quiet (in_statements (in_function items h) h.body.all)
-    body_quiet = second_part (flat_map (clause (in_function items h)) h.contract) (in_statements (in_function items h) h.body.all) rest_quiet
+    body_quiet = quiet_right (flat_map (clause (in_function items h)) h.contract) (in_statements (in_function items h) h.body.all) rest_quiet
 
     pub value_typed : Where (λ ty. Typed items (kind_of items ty)) h.value
-    value_typed = by h.value (first_part (if_some (struct_name items) h.value) (types_of items h.parameters ++ behind_parameters) parts_quiet)
+    value_typed = by h.value (quiet_left (if_some (struct_name items) h.value) (types_of items h.parameters ++ behind_parameters) parts_quiet)
       where
         by : (o : Option Ty) → Quiet (if_some (struct_name items) o) → Where (λ ty. Typed items (kind_of items ty)) o
         by None q = tt
         by (Some ty) q = type_typed items ty q
 
     list_typed : (ps : List Param) → Quiet (types_of items ps) → (x : Param) → Contains ps x → Typed items (kind_of items x.ty)
-    list_typed ps q x d = type_typed items x.ty (λ y g. q y (in_flat (λ z. struct_name items z.ty) ps x y d g))
+    list_typed ps q x d = type_typed items x.ty (λ y g. q y (to_flat_map (λ z. struct_name items z.ty) ps x y d g))
 
     pub parameters_typed : (x : Param) → Contains h.parameters x → Typed items (kind_of items x.ty)
-    parameters_typed = list_typed h.parameters (first_part (types_of items h.parameters) behind_parameters types_quiet)
+    parameters_typed = list_typed h.parameters (quiet_left (types_of items h.parameters) behind_parameters types_quiet)
 
     pub ghost_parameters_typed : (x : Param) → Contains h.ghost_parameters x → Typed items (kind_of items x.ty)
-    ghost_parameters_typed = list_typed h.ghost_parameters (first_part (types_of items h.ghost_parameters) behind_types ghost_types_quiet)
+    ghost_parameters_typed = list_typed h.ghost_parameters (quiet_left (types_of items h.ghost_parameters) behind_types ghost_types_quiet)
 
 -- ---- parameters in scope
 
@@ -134,13 +110,9 @@ params_in : (b : Bool) (ps : List Param) (c : Context) (v : Variable) → Contai
 params_in b [] c v d = inr d
 params_in b (x ∷ xs) c v d =
     elim (params_in b xs (record c { scope = record c.scope { variables = parameter b x ∷ c.scope.variables } }) v d) [
-      | inl q ↦ inl (q.0, tail_in x q.0 xs q.1, q.2)
-      | inr q ↦ elim (cases_in (parameter b x) v c.scope.variables q) [ inl g ↦ inl (x, head_in x xs, g) | inr g ↦ inr g ]
+      | inl q ↦ inl (q.0, contains_tail x q.0 xs q.1, q.2)
+      | inr q ↦ elim (contains_cases (parameter b x) v c.scope.variables q) [ inl g ↦ inl (x, contains_head x xs, g) | inr g ↦ inr g ]
     ]
-
-in_map : {A B : Type 0} (f : A → B) (xs : List A) (x : A) → Contains xs x → Contains (map f xs) (f x)
-in_map f [] x c = none_in x c
-in_map f (y ∷ xs) x c = elim (cases_in y x xs c) [ inl q ↦ subst (λ z. Contains (f y ∷ map f xs) (f z)) q (head_in (f y) (map f xs)) | inr q ↦ tail_in (f y) (f x) (map f xs) (in_map f xs x q) ]
 
 module _ (items : List Item) (end : Span) (typed : IsWellTyped items end) (h : FunctionTree) (c : Contains (functions items) h) where
   -- a variable in scope at the beginning is a parameter: it is one of the function's variables, and its type is known
@@ -148,14 +120,14 @@ module _ (items : List Item) (end : Span) (typed : IsWellTyped items end) (h : F
   first_variable v d =
       elim (params_in true h.ghost_parameters (with_params false h.parameters (nowhere items)) v d) [
         | inl q ↦
-            let place = Contains-append_right (map (parameter false) h.parameters) (map (parameter true) h.ghost_parameters ++ all_declared h.body.all) (parameter true q.0) (Contains-append_left (map (parameter true) h.ghost_parameters) (all_declared h.body.all) (parameter true q.0) (in_map (parameter true) h.ghost_parameters q.0 q.1)) in
+            let place = Contains-append_right (map (parameter false) h.parameters) (map (parameter true) h.ghost_parameters ++ all_declared h.body.all) (parameter true q.0) (Contains-append_left (map (parameter true) h.ghost_parameters) (all_declared h.body.all) (parameter true q.0) (contains_map (parameter true) h.ghost_parameters q.0 q.1)) in
             (subst (Contains (variables h)) q.2 place, subst (λ w. Typed items (kind_of items w.ty)) q.2 (ghost_parameters_typed items end typed h c q.0 q.1))
         | inr q ↦
             elim (params_in false h.parameters (nowhere items) v q) [
               | inl g ↦
-                  let place = Contains-append_left (map (parameter false) h.parameters) (map (parameter true) h.ghost_parameters ++ all_declared h.body.all) (parameter false g.0) (in_map (parameter false) h.parameters g.0 g.1) in
+                  let place = Contains-append_left (map (parameter false) h.parameters) (map (parameter true) h.ghost_parameters ++ all_declared h.body.all) (parameter false g.0) (contains_map (parameter false) h.parameters g.0 g.1) in
                   (subst (Contains (variables h)) g.2 place, subst (λ w. Typed items (kind_of items w.ty)) g.2 (parameters_typed items end typed h c g.0 g.1))
-              | inr g ↦ none_in v g
+              | inr g ↦ absurd (contains_none v g)
             ]
       ]
 

@@ -1,11 +1,6 @@
 -- What is found by its name, and what a declared type's values are.
-use Rattle.std.proofs.Common.{◌≡◌, ℕ, ◌+◌, Bool, true, false, cond, List, [], ◌∷◌, Option, Some, None, Contains, find, position, is_some, nat_lt, int_le, refl, sym, ap, ◌∙◌, subst, arith}
-use Rattle.std.specs.Option.{option_map, unwrap_or}
-use Rattle.std.specs.List.{position_from}
-use Rattle.std.proofs.lemmas.Bool.{true≢false, ltb-true}
-use Rattle.std.proofs.lemmas.List.Elements.{Contains-append_right}
-use Rattle.std.proofs.lemmas.Iterator.Adapters.{position_from-zero}
-use Rattle.std.proofs.lemmas.Slice.Eq.{bytes_eq-Decides}
+use Rattle.std.proofs.Common.{◌≡◌, true, List, Option, Some, None, int_le, refl, sym, ap}
+use Rattle.std.specs.Option.{option_map}
 use Rattle.int_ranges.specs.declared.ctype.CType.{CType}
 use Rattle.int_ranges.specs.Ranges.{least_of, greatest_of}
 use Rattle.c_syntax.specs.Expressions as e
@@ -16,72 +11,39 @@ use Rattle.c_types.specs.Types as types
 use Rattle.c_types.specs.Types.{Kind, kind_of}
 use Rattle.c_types.specs.TypeLaws.{Sound, Typed}
 use Rattle.method.specs.declared.program.DeclaredType.TheVariants.{Pointer}
-use Rattle.method.specs.Typing.{Refs, all_of, declared}
+use Rattle.method.specs.Typing.{Refs, all_of, declared, Values, Ints, Nulls, are_ints}
 use Rattle.typed_program.specs.Numbers.{struct_number, declared_type}
-use Rattle.typed_program.specs.Codes.{integer_of}
+use Rattle.typed_program.specs.Codes.{integer_of, holds_all}
+use Rattle.typed_laws.proofs.Basics.{and_both, same_bytes, find_passes, and_left, and_right}
+use Rattle.typed_laws.proofs.Order.{same_order, chain}
 use Rattle.typed_laws.proofs.Facts.{Within, Agrees}
-use Rattle.typed_laws.proofs.Order.{both, same_order}
-
-pub not_none : {A : Type 0} {P : Type 0} (x : A) → None ≡ Some x → P
-not_none x h = absurd (true≢false (sym (ap is_some h)))
-
-pub some_is : {A : Type 0} (x y : A) → Some x ≡ Some y → x ≡ y
-some_is x y h = ap (λ o. unwrap_or o x) h
-
-pub head_in : {A : Type 0} (x : A) (xs : List A) → Contains (x ∷ xs) x
-head_in x xs = (0, omega arith, refl)
-
-pub tail_in : {A : Type 0} (x y : A) (xs : List A) → Contains xs y → Contains (x ∷ xs) y
-tail_in x y xs c = Contains-append_right (x ∷ []) xs y c
-
--- what is found passes the test, and is one of the list
-pub find_passes : {A : Type 0} (test : A → Bool) (xs : List A) (x : A) → find test xs ≡ Some x → test x ≡ true
-find_passes test [] x h = not_none x h
-find_passes test (y ∷ ys) x h = by (test y) refl h (find_passes test ys x)
-  where
-    by : (b : Bool) → test y ≡ b → cond b (Some y) (find test ys) ≡ Some x → (find test ys ≡ Some x → test x ≡ true) → test x ≡ true
-    by true t g more = subst (λ z. test z ≡ true) (some_is y x g) t
-    by false t g more = more g
-
-pub find_in : {A : Type 0} (test : A → Bool) (xs : List A) (x : A) → find test xs ≡ Some x → Contains xs x
-find_in test [] x h = not_none x h
-find_in test (y ∷ ys) x h = by (test y) h (find_in test ys x)
-  where
-    by : (b : Bool) → cond b (Some y) (find test ys) ≡ Some x → (find test ys ≡ Some x → Contains ys x) → Contains (y ∷ ys) x
-    by true g more = subst (Contains (y ∷ ys)) (some_is y x g) (head_in y ys)
-    by false g more = tail_in y x ys (more g)
-
-found_from : {A : Type 0} (test : A → Bool) (n : ℕ) (xs : List A) (x : A) → find test xs ≡ Some x → (i : ℕ) × (position_from test n xs ≡ Some i)
-found_from test n [] x h = not_none x h
-found_from test n (y ∷ ys) x h = by (test y) h (found_from test (n + 1) ys x)
-  where
-    by : (b : Bool) → cond b (Some y) (find test ys) ≡ Some x → (find test ys ≡ Some x → (i : ℕ) × (position_from test (n + 1) ys ≡ Some i)) → (i : ℕ) × (cond b (Some n) (position_from test (n + 1) ys) ≡ Some i)
-    by true g more = (n, refl)
-    by false g more = more g
-
--- it has a place
-pub find_place : {A : Type 0} (test : A → Bool) (xs : List A) (x : A) → find test xs ≡ Some x → (i : ℕ) × (position test xs ≡ Some i)
-find_place test xs x h = let r = found_from test 0 xs x h in (r.0, position_from-zero test xs ∙ r.1)
-
-pub same_bytes : (x y : Id) → same_name x y ≡ true → x.name ≡ y.name
-same_bytes x y h = (bytes_eq-Decides x.name y.name).0 h
 
 -- a struct's number goes by the bytes of its name
-pub one_number : (items : List Item) (x y : Id) → x.name ≡ y.name → struct_number items x ≡ struct_number items y
-one_number items x y h = ap (λ n. struct_number items (record { place = x.place; name = n })) h
+pub number_by_name : (items : List Item) (x y : Id) → x.name ≡ y.name → struct_number items x ≡ struct_number items y
+number_by_name items x y h = ap (λ n. struct_number items (record { place = x.place; name = n })) h
+
+-- so structs of one name have one number
+pub struct_by_name : (items : List Item) (s u : StructTree) → same_name s.name u.name ≡ true → struct_number items s.name ≡ struct_number items u.name
+struct_by_name items s u h = number_by_name items s.name u.name (same_bytes s.name u.name h)
 
 pub found_name : (items : List Item) (x : Id) (s : StructTree) → find_struct items x ≡ Some s → s.name.name ≡ x.name
 found_name items x s h = same_bytes s.name x (find_passes (λ t. same_name t.name x) (structs items) s h)
 
-pub none_below : (i : ℕ) → nat_lt i 0 ≡ false
-none_below i = by (nat_lt i 0) refl
-  where
-    by : (b : Bool) → nat_lt i 0 ≡ b → b ≡ false
-    by true h = absurd (omega (arith, ltb-true i 0 h))
-    by false h = refl
-
 pub all_within : (c : CType) → Within c (all_of c)
-all_within c = both (int_le (least_of c) (least_of c)) (int_le (greatest_of c) (greatest_of c)) (same_order (least_of c)) (same_order (greatest_of c))
+all_within c = and_both (int_le (least_of c) (least_of c)) (int_le (greatest_of c) (greatest_of c)) (same_order (least_of c)) (same_order (greatest_of c))
+
+-- integers of one type are those of another
+pub widened : (to from : CType) (v : Values) → holds_all to from ≡ true → Within from v → Within to v
+widened to from (Ints l h) e w =
+    and_both (int_le (least_of to) l) (int_le h (greatest_of to)) (chain (least_of to) (least_of from) l (and_left (int_le (least_of to) (least_of from)) (int_le (greatest_of from) (greatest_of to)) e) (and_left (int_le (least_of from) l) (int_le h (greatest_of from)) w))
+    (chain h (greatest_of from) (greatest_of to) (and_right (int_le (least_of from) l) (int_le h (greatest_of from)) w) (and_right (int_le (least_of to) (least_of from)) (int_le (greatest_of from) (greatest_of to)) e))
+widened to from Nulls e w = absurd w
+widened to from (Refs ty) e w = absurd w
+
+pub within_ints : (c : CType) (v : Values) → Within c v → are_ints v ≡ true
+within_ints c (Ints l h) w = refl
+within_ints c Nulls w = absurd w
+within_ints c (Refs ty) w = absurd w
 
 -- the kind of a declared type, and the values of it
 pub record Valued (items : List Item) (ty : Ty) : Type 0 where
@@ -96,6 +58,6 @@ type_valued items (e.Pointer x) h = by (find_struct items x) refl h
   where
     by : (o : Option StructTree) → find_struct items x ≡ o → Typed items (option_map (λ s. types.Pointer s) o) → Valued items (e.Pointer x)
     by None g t = absurd t
-    by (Some s) g t = record { kind = types.Pointer s; is = ap (option_map (λ s. types.Pointer s)) g; sound = t; agrees = ap (λ n. Refs (Pointer n)) (one_number items x s.name (sym (found_name items x s g))) }
+    by (Some s) g t = record { kind = types.Pointer s; is = ap (option_map (λ s. types.Pointer s)) g; sound = t; agrees = ap (λ n. Refs (Pointer n)) (number_by_name items x s.name (sym (found_name items x s g))) }
 type_valued items e.Object h = record { kind = types.Object; is = refl; sound = tt; agrees = refl }
 type_valued items e.Claim h = record { kind = types.Claim; is = refl; sound = tt; agrees = refl }

@@ -4,7 +4,7 @@ use Rattle.std.specs.List.{list_any}
 use Rattle.std.proofs.Common.{◌≡◌, refl, sym, ap, subst, ◌∙◌, arith}
 use Rattle.std.proofs.lemmas.Bool.{true≢false}
 use Rattle.std.proofs.lemmas.Bool.Decides.{nat_tests}
-use Rattle.std.proofs.lemmas.Option.{slice_get_within, none-some}
+use Rattle.std.proofs.lemmas.Option.{slice_get_within, none-some, same_Some}
 use Rattle.std.proofs.lemmas.List.{length-map}
 use Rattle.c_syntax.specs.declared.token.Span.{Span}
 use Rattle.c_syntax.specs.Expressions.{Id}
@@ -24,20 +24,21 @@ use Rattle.typed_program.specs.Variables.{variables}
 use Rattle.typed_program.specs.Statements.{Before, plus, in_statements}
 use Rattle.typed_program.specs.Sites.{Site}
 use Rattle.typed_program.specs.Tables.{around_function, variable, function, in_item, function_table, start, function_sorts, sorts_of, sites_told, function_tells, claim_site, site_table, numbered_function, shapes, program}
+use Rattle.typed_laws.proofs.Basics.{from_not, contained, nothing}
+use Rattle.typed_laws.proofs.Quiet.{quiet_item, not_placed}
 use Rattle.typed_laws.proofs.Facts.{FunctionAt, FunctionOf}
 use Rattle.typed_laws.proofs.Goals.{TablesLaw, FunctionsLaw, MainLaw}
-use Rattle.typed_laws.proofs.Quiet.{nothing, quiet_item}
-use Rattle.typed_laws.proofs.TableLists.{some_is, at_place, contained, within, mapped, to_mapped, in_front, at_back, not_placed, first_named}
+use Rattle.typed_laws.proofs.TableLists.{at_place, within, mapped, to_mapped, in_front, at_back, first_named}
+use Rattle.typed_laws.proofs.StructTables.{found_at, struct_in_table, one_struct, field_in_table}
 use Rattle.typed_laws.proofs.TableNames.{variables_are}
 use Rattle.typed_laws.proofs.TableSites.{statements_sited, function_sites}
-use Rattle.typed_laws.proofs.StructTables.{found_at, struct_in_table, one_struct, field_in_table}
 
 -- ---- functions among items
 
 pub function_item : (items : List Item) (place : ℕ) (h : FunctionTree) → slice_get (functions items) place ≡ Some h → (n : ℕ) × (slice_get items n ≡ Some (i.Function h))
 function_item [] place h e = absurd (none-some h e)
 function_item (i.Struct z ∷ more) place h e = let p = function_item more place h e in (suc p.0, p.1)
-function_item (i.Function z ∷ more) zero h e = (0, ap (λ w. Some (i.Function w)) (some_is z h e))
+function_item (i.Function z ∷ more) zero h e = (0, ap (λ w. Some (i.Function w)) (same_Some z h e))
 function_item (i.Function z ∷ more) (suc place) h e = let p = function_item more place h e in (suc p.0, p.1)
 
 -- ---- the entry at a place
@@ -95,7 +96,7 @@ function_row l items n f [] place h e = absurd (none-some h e)
 function_row l items n f (i.Struct z ∷ more) place h e =
     let q = function_row l items (plus n (in_item (i.Struct z))) f more place h e in
     record { before = q.before; row = q.row; skipped = q.skipped; first_site = omega (arith, q.first_site); own = q.own }
-function_row l items n f (i.Function z ∷ more) zero h e = subst (λ w. Row l items n f (i.Function z ∷ more) 0 w) (some_is z h e) (first_row l items n f z more)
+function_row l items n f (i.Function z ∷ more) zero h e = subst (λ w. Row l items n f (i.Function z ∷ more) 0 w) (same_Some z h e) (first_row l items n f z more)
 function_row l items n f (i.Function z ∷ more) (suc place) h e = next_row l items n f z more place h (function_row l items (plus n (in_item (i.Function z))) (suc f) more place h e)
 
 -- where an entry stands, a function does
@@ -187,7 +188,7 @@ functions_law items end w place info e =
     let p = mapped (with_shapes items) (function_table items (start items) items) place info e in
     let h = row_function items (start items) items place p.0 p.1 in
     let q = function_made items end w place h.0 h.1 in
-    subst (λ x. FunctionOf items place x) (some_is q.info info (sym q.there ∙ e)) q.made
+    subst (λ x. FunctionOf items place x) (same_Some q.info info (sym q.there ∙ e)) q.made
 
 -- ---- main
 
@@ -198,10 +199,6 @@ any_found {A} q (x ∷ xs) h = go (q x) h (any_found q xs)
     go : (b : Bool) → (b || list_any q xs) ≡ true → (list_any q xs ≡ true → (y : A) × (find q xs ≡ Some y)) → (y : A) × (cond b (Some x) (find q xs) ≡ Some y)
     go true a k = (x, refl)
     go false a k = k a
-
-from_not : (b : Bool) → not b ≡ false → b ≡ true
-from_not true h = refl
-from_not false h = absurd (true≢false h)
 
 pub main_law : MainLaw
 main_law items end w =

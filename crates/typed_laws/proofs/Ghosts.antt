@@ -35,9 +35,11 @@ use Rattle.typed_program.specs.Statements as s
 use Rattle.typed_program.specs.Statements.{Before, plus, left_type, target, variable, ghost_right, ghost_assigned, members_of, owned_change, claim_end, known_behind_ghost, ghost_row, ghost_rows, inner_ghost, inner_ghosts, append, append_inner}
 use Rattle.tree_forms.specs.InForm as form
 use Rattle.tree_forms.specs.InForm.{is_code, is_place, all_code}
+use Rattle.typed_laws.proofs.Basics.{and_both, and_left, and_right}
+use Rattle.typed_laws.proofs.Quiet.{quiet_left, quiet_right, quiet_first, quiet_rest, not_placed}
 use Rattle.typed_laws.proofs.Tests.{struct_test, struct_of, is_struct, has_fixed_owns, values, test, variable_takes, takes, right_values, is_ref, all_refs, is_pointer, is_test, is_claim_expr, change_allowed, simple_ok, stmt_ok, row_ok, inner_ok, inner_row_ok}
 use Rattle.typed_laws.proofs.Facts.{Numbered, Agrees, SitesOf, runs}
-use Rattle.typed_laws.proofs.BodyParts.{and_both, and_left, and_right, within, equal_numbers, not_placed, quiet_left, quiet_right, quiet_first, quiet_rest, Converts, piece_converts, together, passes}
+use Rattle.typed_laws.proofs.BodyParts.{within, equal_numbers, Converts, piece_converts, together, passes}
 use Rattle.typed_laws.proofs.Sides.{Setting, here, around, at, Knows, Valued, valued, test_some, to_claim, to_reference, stores, placed}
 use Rattle.typed_laws.proofs.BodyRights.{fit_reference, is_struct_at}
 use Rattle.typed_laws.proofs.BodyCalls.{kind_known}

@@ -1,3 +1,5 @@
+pub mod Basics
+pub mod Quiet
 pub mod Tests
 pub mod Order
 pub mod Facts
@@ -5,7 +7,6 @@ pub mod Goals
 pub mod Found
 pub mod CodeValues
 pub mod Bridge
-pub mod Quiet
 pub mod Entry
 pub mod BodyParts
 pub mod Sides
@@ -19,7 +20,6 @@ pub mod TableNames
 pub mod TableSites
 pub mod FunctionTables
 pub mod SiteTables
-pub mod SpecBasics
 pub mod Contents
 pub mod Conjuncts
 pub mod SpecSites

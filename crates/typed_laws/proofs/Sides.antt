@@ -1,9 +1,9 @@
 -- What stands around a function's statements, and what is stored in the places that they name.
-use Rattle.std.specs.Prelude.{Bool, true, false, ◌==◌, if◌then◌else◌, ℕ, ◌+◌, List, [], ◌∷◌, slice_get, Option, Some, None, option_map, option_and_then, Contains, int_le, IsTrue, bytes_eq}
+use Rattle.std.specs.Prelude.{Bool, true, false, ◌==◌, if◌then◌else◌, ℕ, List, [], ◌∷◌, slice_get, Option, Some, None, option_map, option_and_then, Contains, IsTrue, bytes_eq}
 use Rattle.std.proofs.Common.{◌≡◌, refl, sym, ap, subst, ◌∙◌}
 use Rattle.std.proofs.lemmas.Bool.{true≢false}
+use Rattle.std.proofs.lemmas.Option.{same_Some, none-some}
 use Rattle.int_ranges.specs.declared.ctype.CType.{CType}
-use Rattle.int_ranges.specs.Ranges.{least_of, greatest_of}
 use Rattle.c_syntax.specs.declared.token.Span.{Span}
 use Rattle.c_syntax.specs.Expressions as e
 use Rattle.c_syntax.specs.Expressions.{Id, Ty, Exp}
@@ -25,10 +25,13 @@ use Rattle.typed_program.specs.Codes.{Operand, code, code_name, integer_type, is
 use Rattle.typed_program.specs.Statements.{left_type, type_or, target, local}
 use Rattle.typed_program.specs.Tables.{variable, field}
 use Rattle.tree_forms.specs.InForm.{is_code, is_place}
+use Rattle.typed_laws.proofs.Basics.{and_both, nat_itself, none_below, same_bytes, find_place}
+use Rattle.typed_laws.proofs.Quiet.{quiet_left}
 use Rattle.typed_laws.proofs.Tests.{values, test, converted_values, has_type, takes, variable_takes, field_takes}
 use Rattle.typed_laws.proofs.Facts.{Tables, InCode, Numbered, Within, Agrees, runs}
 use Rattle.typed_laws.proofs.Goals.{CodeLaw}
-use Rattle.typed_laws.proofs.BodyParts.{quiet_left, and_both, and_left, and_right, le_chain, le_itself, equal_numbers, at_itself, below_zero, same_some, some_none, mapped, gone_on, found, same_bytes, place_found, together}
+use Rattle.typed_laws.proofs.Found.{number_by_name, all_within, widened, within_ints}
+use Rattle.typed_laws.proofs.BodyParts.{equal_numbers, mapped, gone_on, found, together}
 
 -- ---- what stands around
 
@@ -90,24 +93,6 @@ test_some o v ok h j = subst (λ z. IsTrue (test z ok)) (sym h) j
 
 -- ---- integers
 
-within_both : (to from : CType) (v : Values) → holds_all to from ≡ true → Within from v → Within to v
-within_both to from (Ints low high) h j =
-    let lows = and_left (int_le (least_of to) (least_of from)) (int_le (greatest_of from) (greatest_of to)) h in
-    let highs = and_right (int_le (least_of to) (least_of from)) (int_le (greatest_of from) (greatest_of to)) h in
-    let low_in = and_left (int_le (least_of from) low) (int_le high (greatest_of from)) j in
-    let high_in = and_right (int_le (least_of from) low) (int_le high (greatest_of from)) j in
-    and_both (int_le (least_of to) low) (int_le high (greatest_of to)) (le_chain (least_of to) (least_of from) low lows low_in) (le_chain high (greatest_of from) (greatest_of to) high_in highs)
-within_both to from Nulls h j = absurd j
-within_both to from (Refs ty) h j = absurd j
-
-pub all_within : (c : CType) → Within c (all_of c)
-all_within c = and_both (int_le (least_of c) (least_of c)) (int_le (greatest_of c) (greatest_of c)) (le_itself (least_of c)) (le_itself (greatest_of c))
-
-pub ints_within : (c : CType) (v : Values) → Within c v → are_ints v ≡ true
-ints_within c (Ints low high) h = refl
-ints_within c Nulls h = absurd h
-ints_within c (Refs ty) h = absurd h
-
 pub fits_within : (c : CType) (v : Values) → Within c v → IsTrue (fits v (d.Integer c))
 fits_within c (Ints low high) h = h
 fits_within c Nulls h = absurd h
@@ -118,7 +103,7 @@ pub converted_within : (from to : CType) (v : Values) → Within from v → With
 converted_within from to v h = go (holds_all to from) refl
   where
     go : (b : Bool) → holds_all to from ≡ b → Within to (converted_values (if b then None else Some to) v)
-    go true j = within_both to from v j h
+    go true j = widened to from v j h
     go false j = all_within to
 
 converted_code : (p : Program) (f : FunctionInfo) (o : Option CType) (x : Code) (v : Values) → values p f x ≡ Some v → are_ints v ≡ true → values p f (converted_by x o) ≡ Some (converted_values o v)
@@ -127,7 +112,7 @@ converted_code p f (Some c) x v h j = subst (λ z. and_then z (λ u. only_if (ar
 
 -- an integer operand in another type
 pub in_type : (p : Program) (f : FunctionInfo) (c : CType) (x : Operand) (v : Values) → x.is_int ≡ true → values p f x.code ≡ Some v → Within x.ty v → values p f (in_type_of c x) ≡ Some (converted_values (conversion x.ty c) v)
-in_type p f c x v i h j = subst (λ b. values p f (if b then converted x.ty c x.code else x.code) ≡ Some (converted_values (conversion x.ty c) v)) (sym i) (converted_code p f (conversion x.ty c) x.code v h (ints_within x.ty v j))
+in_type p f c x v i h j = subst (λ b. values p f (if b then converted x.ty c x.code else x.code) ≡ Some (converted_values (conversion x.ty c) v)) (sym i) (converted_code p f (conversion x.ty c) x.code v h (within_ints x.ty v j))
 
 -- ---- references
 
@@ -136,10 +121,6 @@ pointed items y w h =
     let m = mapped (λ s. kd.Pointer s) (find_struct items y) w h in
     let g = found (λ s. same_name s.name y) (structs items) m.0 m.1 in
     (m.0, sym m.2, same_bytes m.0.name y g.0, g.1)
-
--- a struct's number goes by its name's bytes
-pub number_by_name : (items : List Item) (x y : Id) → x.name ≡ y.name → struct_number items x ≡ struct_number items y
-number_by_name items x y h = ap (λ n. 3 + place_of (λ s. bytes_eq s.name.name n) (structs items)) h
 
 to_pointer : (items : List Item) (y : Id) (i : Kind) (c : CType) (v : Values) (s : StructTree) → s.name.name ≡ y.name → converts i (kd.Pointer s) ≡ true → Agrees items i c v → IsTrue (fits v (d.Pointer (struct_number items y)))
 to_pointer items y kd.Null c v s n h a = subst (λ u. IsTrue (fits u (d.Pointer (struct_number items y)))) (sym a) refl
@@ -181,14 +162,14 @@ Refers _ = Unit {0}
 pub refers_fit : (items : List Item) (ty : Ty) (i w : Kind) (c : CType) (v : Values) → Refers ty → kind_of items ty ≡ Some w → converts i w ≡ true → Agrees items i c v → IsTrue (fits v (declared_type items ty))
 refers_fit items (e.Integer b) i w c v r h j a = absurd r
 refers_fit items (e.Pointer y) i w c v r h j a = let s = pointed items y w h in to_pointer items y i c v s.0 s.2 (subst (λ z. converts i z ≡ true) s.1 j) a
-refers_fit items e.Object i w c v r h j a = to_object items i c v (subst (λ z. converts i z ≡ true) (sym (same_some kd.Object w h)) j) a
-refers_fit items e.Claim i w c v r h j a = to_claim items i c v (subst (λ z. converts i z ≡ true) (sym (same_some kd.Claim w h)) j) a
+refers_fit items e.Object i w c v r h j a = to_object items i c v (subst (λ z. converts i z ≡ true) (sym (same_Some kd.Object w h)) j) a
+refers_fit items e.Claim i w c v r h j a = to_claim items i c v (subst (λ z. converts i z ≡ true) (sym (same_Some kd.Claim w h)) j) a
 
 -- an operand that converts to the kind of a declared type is stored in it
 pub store : (items : List Item) (p : Program) (f : FunctionInfo) (ty : Ty) (x : Operand) (i w : Kind) (v : Values) → x.is_int ≡ is_integer (Some i) → values p f x.code ≡ Some v → Agrees items i x.ty v → kind_of items ty ≡ Some w → converts i w ≡ true
     → IsTrue (has_type p f (stored_in ty x) (declared_type items ty))
 store items p f (e.Integer c) x i w v n h a g j =
-    let is : i ≡ kd.Integer = from_integer i (subst (λ z. converts i z ≡ true) (sym (same_some kd.Integer w g)) j) in
+    let is : i ≡ kd.Integer = from_integer i (subst (λ z. converts i z ≡ true) (sym (same_Some kd.Integer w g)) j) in
     let inside : Within x.ty v = subst (λ z. Agrees items z x.ty v) is a in
     test_some (values p f (in_type_of c x)) (converted_values (conversion x.ty c) v) (λ u. fits u (d.Integer c)) (in_type p f c x v (n ∙ ap (λ z. is_integer (Some z)) is) h inside)
     (fits_within c (converted_values (conversion x.ty c) v) (converted_within x.ty c v inside))
@@ -212,19 +193,19 @@ pub record Placed (o : Setting) (vs : List Variable) (w : Context) (x : Exp) : T
   pub takes_it : (u : Option Values) → IsTrue (test u (λ v. fits v (declared_type o.items (left_type (here o vs) x)))) → IsTrue (takes o.program o.info (target (around o vs w) x) u)
 
 of_variable : (v : Option Variable) (ty : Ty) → variable_or_field v None ≡ Some ty → (x : Variable) × (v ≡ Some x) × (x.ty ≡ ty)
-of_variable None ty h = absurd (some_none ty h)
-of_variable (Some v) ty h = (v, refl, same_some v.ty ty h)
+of_variable None ty h = absurd (none-some ty h)
+of_variable (Some v) ty h = (v, refl, same_Some v.ty ty h)
 
 name_placed : (o : Setting) (vs : List Variable) → Knows o vs → (w : Context) (x : Id) (i : Kind) → kind (here o vs) (e.Name x) ≡ Some i → Placed o vs w (e.Name x)
 name_placed o vs m w x i h =
     let typed = gone_on (kind_of o.items) (type_of_name (here o vs) x) i h in
     let v = of_variable (find_variable (here o vs) x) typed.0 typed.1 in
     let f = found (λ z. same_name z.name x) vs v.0 v.1 in
-    let place = place_found (λ z. same_name z.name x) vs v.0 v.1 in
+    let place = find_place (λ z. same_name z.name x) vs v.0 v.1 in
     let number = place_of (λ n. bytes_eq n x.name) o.names in
     let left : left_type (here o vs) (e.Name x) ≡ v.0.ty = ap type_or typed.1 ∙ sym v.2 in
     let aim : target (around o vs w) (e.Name x) ≡ t.Local number =
-    ap (λ z. local (code_name (meaning_at (around o vs w) x z))) place.1 ∙ ap (λ b. local (code_name (if b then OfQuantifier place.0 else OfFunction number))) (below_zero place.0) in
+    ap (λ z. local (code_name (meaning_at (around o vs w) x z))) place.1 ∙ ap (λ b. local (code_name (if b then OfQuantifier place.0 else OfFunction number))) (none_below place.0) in
     let at_number : slice_get o.info.variables number ≡ Some (variable o.items v.0) = subst (λ n. slice_get o.info.variables (place_of (λ z. bytes_eq z n) o.names) ≡ Some (variable o.items v.0)) (same_bytes v.0.name x f.0) (m.numbered v.0 f.1) in
     record {
       sort = i;
@@ -238,7 +219,7 @@ name_placed o vs m w x i h =
 -- a field that something has
 has_field : (j : Kind) (y : Id) (g : FieldTree) → field_of j y ≡ Some g → (s : StructTree) × (j ≡ kd.Pointer s) × (find_field s y ≡ Some g)
 has_field (kd.Pointer s) y g h = (s, refl, h)
-has_field _ y g h = absurd (some_none g h)
+has_field _ y g h = absurd (none-some g h)
 
 -- the object and the number of a field that an expression names
 pub record Named (o : Setting) (vs : List Variable) (w : Context) (x : Exp) (y : Id) (i : Kind) : Type 0 where
@@ -255,7 +236,7 @@ field_of_object o vs w p x y i v h =
     let first = gone_on (λ j. option_and_then (λ g. kind_of o.items g.ty) (field_of j y)) (kind (here o vs) x) i h in
     let second = gone_on (λ g. kind_of o.items g.ty) (field_of first.0 y) i first.2 in
     let third = has_field first.0 y second.0 second.1 in
-    let sort : v.sort ≡ kd.Pointer third.0 = same_some v.sort (kd.Pointer third.0) (sym v.is_kind ∙ first.1 ∙ ap Some third.1) in
+    let sort : v.sort ≡ kd.Pointer third.0 = same_Some v.sort (kd.Pointer third.0) (sym v.is_kind ∙ first.1 ∙ ap Some third.1) in
     let inside : Contains (structs o.items) third.0 = subst (Sound o.items) sort v.sound in
     let refs : v.all ≡ Refs (d.Pointer (struct_number o.items third.0.name)) = subst (λ z. Agrees o.items z (integer_type (here o vs) x) v.all) sort v.agrees in
     let kinded : kind (here o vs) x ≡ Some (kd.Pointer third.0) = first.1 ∙ ap Some third.1 in
@@ -284,7 +265,7 @@ field_placed o vs w p x y i v h =
       takes_it = λ u g.
           test_some (values o.program o.info (code (around o vs w) x)) (Refs (d.Pointer (struct_number o.items n.owner.name))) (λ z. field_takes (slice_get o.program.fields (field_of_kind o.items (kind (here o vs) x) y)) z u) n.object_has
           (subst (λ z. IsTrue (field_takes z (Refs (d.Pointer (struct_number o.items n.owner.name))) u)) (sym n.at_number)
-          (and_both (struct_number o.items n.owner.name == struct_number o.items n.owner.name) (test u (λ y. fits y (declared_type o.items n.tree.ty))) (at_itself (struct_number o.items n.owner.name))
+          (and_both (struct_number o.items n.owner.name == struct_number o.items n.owner.name) (test u (λ y. fits y (declared_type o.items n.tree.ty))) (nat_itself (struct_number o.items n.owner.name))
           (subst (λ z. IsTrue (test u (λ y. fits y (declared_type o.items z)))) left g)));
     }
 

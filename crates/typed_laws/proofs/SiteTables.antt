@@ -8,9 +8,10 @@ use Rattle.c_types.specs.Declarations.{functions}
 use Rattle.typed_program.specs.Trees.{ClaimSite, Shape}
 use Rattle.typed_program.specs.Sites.{Site, all_tell}
 use Rattle.typed_program.specs.Tables.{around_function, function_sorts, sites_told, function_tells, claim_site, site_table, shapes}
+use Rattle.typed_laws.proofs.Basics.{contained}
 use Rattle.typed_laws.proofs.Facts.{SiteOf}
 use Rattle.typed_laws.proofs.Goals.{SitesLaw}
-use Rattle.typed_laws.proofs.TableLists.{at_place, contained, mapped, in_two}
+use Rattle.typed_laws.proofs.TableLists.{at_place, mapped, in_two}
 use Rattle.typed_laws.proofs.TableSites.{statements_sited, function_sites}
 use Rattle.typed_laws.proofs.FunctionTables.{Made, function_made}
 

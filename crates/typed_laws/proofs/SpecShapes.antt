@@ -13,9 +13,8 @@ use Rattle.typed_program.specs.Numbers.{place_of}
 use Rattle.typed_program.specs.Shapes.{Sorts, shape, same_sorts, same, same_shape, shapes_in, property_shapes, first_ones, table_shape}
 use Rattle.typed_program.specs.Sites.{Site, Makes}
 use Rattle.typed_program.specs.Tables.{struct_tells, function_tells, function_sorts, told_shapes, no_sorts, item_shapes, shapes}
+use Rattle.typed_laws.proofs.Basics.{and_right, never, contains_head, contains_tail, contains_cases, contains_none, to_flat_map, position_cons}
 use Rattle.typed_laws.proofs.Tests.{shape_ok}
-use Rattle.typed_laws.proofs.SpecBasics.{right, never, contains_head, contains_tail, contains_cases, contains_none, to_flat_map}
-use Rattle.typed_laws.proofs.SpecNamed.{position_cons}
 use Rattle.typed_laws.proofs.Conjuncts.{conjunct_passes, conjunct_opened, shape_itself, conjunct_same_passes, numbered_conjunct}
 
 -- ---- what passes a test, among others
@@ -67,7 +66,7 @@ kept z self earlier (x ∷ xs) c = by (list_any (same_shape x) earlier) refl (λ
           | inr d ↦ new (first_ones (x ∷ earlier) xs) (take d)
         ]
 
-first_kept : (z : Shape) → IsTrue (same_shape z z) → (xs : List Shape) → Contains xs z → Among (same_shape z) (first_ones [] xs)
+pub first_kept : (z : Shape) → IsTrue (same_shape z z) → (xs : List Shape) → Contains xs z → Among (same_shape z) (first_ones [] xs)
 first_kept z self xs c = elim (kept z self [] xs c) [ inl a ↦ absurd (contains_none a.one a.there) | inr a ↦ a ]
 
 -- ---- its place
@@ -79,7 +78,7 @@ pub record Placed {A : Type 0} (test : A → Bool) (xs : List A) : Type 0 where
   pub there : slice_get xs number ≡ Some one
   pub passes : IsTrue (test one)
 
-placed : {A : Type 0} (test : A → Bool) (xs : List A) (y : A) → Contains xs y → IsTrue (test y) → Placed test xs
+pub placed : {A : Type 0} (test : A → Bool) (xs : List A) (y : A) → Contains xs y → IsTrue (test y) → Placed test xs
 placed test [] y c h = absurd (contains_none y c)
 placed test (x ∷ xs) y c h = go (test x) refl (λ d. placed test xs y d h)
   where
@@ -108,21 +107,21 @@ in_property s (v ∷ vs) w c =
     ]
 
 -- what is a shape of a function, whatever its number, is one of the items
-in_items : (items : List Item) (h : FunctionTree) (z : Shape) → ((j : ℕ) → Contains (flat_map (told_shapes (function_sorts items h)) (function_tells items j h)) z) → (j : ℕ) (all : List Item) → Contains (functions all) h → Contains (item_shapes items j all) z
-in_items items h z f j [] c = absurd (contains_none h c)
-in_items items h z f j (i.Struct s ∷ all) c = Contains-append_right (flat_map (told_shapes no_sorts) (struct_tells items s)) (item_shapes items j all) z (in_items items h z f j all c)
-in_items items h z f j (i.Function u ∷ all) c =
+pub in_functions : (items : List Item) (h : FunctionTree) (z : Shape) → ((j : ℕ) → Contains (flat_map (told_shapes (function_sorts items h)) (function_tells items j h)) z) → (j : ℕ) (all : List Item) → Contains (functions all) h → Contains (item_shapes items j all) z
+in_functions items h z f j [] c = absurd (contains_none h c)
+in_functions items h z f j (i.Struct s ∷ all) c = Contains-append_right (flat_map (told_shapes no_sorts) (struct_tells items s)) (item_shapes items j all) z (in_functions items h z f j all c)
+in_functions items h z f j (i.Function u ∷ all) c =
     elim (contains_cases u h (functions all) c) [
       | inl g ↦
           Contains-append_left (flat_map (told_shapes (function_sorts items u)) (function_tells items j u)) (item_shapes items (suc j) all) z
           (subst (λ v. Contains (flat_map (told_shapes (function_sorts items v)) (function_tells items j v)) z) (sym g) (f j))
-      | inr d ↦ Contains-append_right (flat_map (told_shapes (function_sorts items u)) (function_tells items j u)) (item_shapes items (suc j) all) z (in_items items h z f (suc j) all d)
+      | inr d ↦ Contains-append_right (flat_map (told_shapes (function_sorts items u)) (function_tells items j u)) (item_shapes items (suc j) all) z (in_functions items h z f (suc j) all d)
     ]
 
 -- the shape of a conjunct of a claim that a function tells of stands among those of the items
 pub told_shape : (items : List Item) (h : FunctionTree) → Contains (functions items) h → (w : Spec) → ((j : ℕ) → (x : Site) × Contains (function_tells items j h) (Makes x) × Contains x.property w) → Contains (item_shapes items 0 items) (shape (function_sorts items h) w)
 told_shape items h c w f =
-    in_items items h (shape (function_sorts items h) w)
+    in_functions items h (shape (function_sorts items h) w)
     (λ j. let m = f j in to_flat_map (told_shapes (function_sorts items h)) (function_tells items j h) (Makes m.0) (shape (function_sorts items h) w) m.1 (in_property (function_sorts items h) m.0.property w m.2)) 0 items c
 
 -- ---- the table
@@ -137,6 +136,6 @@ shape_passes items s ok w h c =
     let a = first_kept z (shape_itself z o) (item_shapes items 0 items) c in
     let r = placed (same_shape z) l a.one a.there a.passes in
     let number_is : r.number ≡ place_of (same_shape z) l = sym (ap (λ v. unwrap_or v 0) r.found) in
-    let passing = conjunct_same_passes z.conjunct r.one.conjunct (right (same_sorts z.holes r.one.holes) (same z.conjunct r.one.conjunct) r.passes) o in
+    let passing = conjunct_same_passes z.conjunct r.one.conjunct (and_right (same_sorts z.holes r.one.holes) (same z.conjunct r.one.conjunct) r.passes) o in
     let in_table : slice_get (map (table_shape l) l) r.number ≡ Some (table_shape l r.one) = slice_get-map (table_shape l) l r.number ∙ ap (option_map (table_shape l)) r.there in
     subst (λ j. IsTrue (shape_ok (slice_get (map (table_shape l) l) j))) number_is (subst (λ v. IsTrue (shape_ok v)) (sym in_table) (numbered_conjunct l _ r.one.conjunct passing))

@@ -1,7 +1,7 @@
 -- The tables of structs and of fields: what stands in them, and under which number.
 use Rattle.std.specs.Prelude.{ℕ, zero, suc, ◌+◌, ◌-◌, ◌<◌, ◌≤◌, ◌==◌, nat_le, nat_lt, Bool, true, false, ◌&&◌, if◌then◌else◌, List, [], ◌∷◌, length, map, flat_map, take, Option, Some, None, Contains, find, position, slice_get, unwrap_or, option_map, option_and_then, IsTrue}
 use Rattle.std.proofs.Common.{◌≡◌, refl, sym, ap, ◌∙◌, arith}
-use Rattle.std.proofs.lemmas.Option.{slice_get_within, none-some}
+use Rattle.std.proofs.lemmas.Option.{slice_get_within, none-some, same_Some}
 use Rattle.std.proofs.lemmas.List.{length-append, length-map}
 use Rattle.std.proofs.lemmas.Bool.Decides.{nat_tests}
 use Rattle.c_syntax.specs.declared.token.Span.{Span}
@@ -20,17 +20,18 @@ use Rattle.typed_program.specs.Trees.{StructInfo, FieldInfo}
 use Rattle.typed_program.specs.Numbers.{struct_number, fields_before, field_number}
 use Rattle.typed_program.specs.Statements.{Before, plus}
 use Rattle.typed_program.specs.Tables.{field, struct, in_item, struct_table, start, field_table, numbered_struct, shapes, program}
+use Rattle.typed_laws.proofs.Basics.{contained}
+use Rattle.typed_laws.proofs.Quiet.{quiet_items}
 use Rattle.typed_laws.proofs.Tests.{struct_of, struct_test, is_struct, is_field_range}
 use Rattle.typed_laws.proofs.Facts.{StructAt}
 use Rattle.typed_laws.proofs.Goals.{StructsLaw, FieldsLaw, FieldStructsLaw}
-use Rattle.typed_laws.proofs.Quiet.{quiet}
-use Rattle.typed_laws.proofs.TableLists.{some_is, at_place, contained, mapped, to_mapped, offset, From, flat_at, from_flat, offset_next, offset_grows, both_nil, first_named}
+use Rattle.typed_laws.proofs.TableLists.{at_place, mapped, to_mapped, offset, From, flat_at, from_flat, offset_next, offset_grows, both_nil, first_named}
 
 -- ---- names that differ
 
 -- no two structs have one name, nor two functions
 pub names_differ : (items : List Item) (end : Span) → IsWellTyped items end → (repeated [] (map (λ s. s.name) (structs items)) ≡ []) × (repeated [] (map (λ f. f.name) (functions items)) ≡ [])
-names_differ items end w = both_nil (repeated [] (map (λ s. s.name) (structs items))) (repeated [] (map (λ f. f.name) (functions items))) (quiet items end w (Program items) (0, omega arith, refl) r.DeclaredTwice)
+names_differ items end w = both_nil (repeated [] (map (λ s. s.name) (structs items))) (repeated [] (map (λ f. f.name) (functions items))) (quiet_items items end w (Program items) (0, omega arith, refl) r.DeclaredTwice)
 
 -- what is found stands at the first place
 pub found_at : {A : Type 0} (q : A → Bool) (xs : List A) (x : A) → find q xs ≡ Some x → (n : ℕ) × (position q xs ≡ Some n) × (slice_get xs n ≡ Some x)
@@ -45,15 +46,15 @@ found_at {A} q xs x e = go (position q xs) refl (sym (find_place q xs) ∙ e)
 -- the entry of the struct at a place
 struct_row : (items : List Item) (n : Before) (more : List Item) (place : ℕ) (s : StructTree) → slice_get (structs more) place ≡ Some s → (m : ℕ) × (slice_get (struct_table items n more) place ≡ Some (struct items m s))
 struct_row items n [] place s e = absurd (none-some s e)
-struct_row items n (i.Struct z ∷ more) zero s e = (n.formulas, ap (λ w. Some (struct items n.formulas w)) (some_is z s e))
+struct_row items n (i.Struct z ∷ more) zero s e = (n.formulas, ap (λ w. Some (struct items n.formulas w)) (same_Some z s e))
 struct_row items n (i.Struct z ∷ more) (suc place) s e = struct_row items (plus n (in_item (i.Struct z))) more place s e
 struct_row items n (i.Function h ∷ more) place s e = struct_row items (plus n (in_item (i.Function h))) more place s e
 
 -- the struct of the entry at a place
-row_struct : (items : List Item) (n : Before) (more : List Item) (place : ℕ) (info : StructInfo) → slice_get (struct_table items n more) place ≡ Some info
+pub row_struct : (items : List Item) (n : Before) (more : List Item) (place : ℕ) (info : StructInfo) → slice_get (struct_table items n more) place ≡ Some info
     → (m : ℕ) × (s : StructTree) × (slice_get (structs more) place ≡ Some s) × (struct items m s ≡ info)
 row_struct items n [] place info e = absurd (none-some info e)
-row_struct items n (i.Struct z ∷ more) zero info e = (n.formulas, z, refl, some_is (struct items n.formulas z) info e)
+row_struct items n (i.Struct z ∷ more) zero info e = (n.formulas, z, refl, same_Some (struct items n.formulas z) info e)
 row_struct items n (i.Struct z ∷ more) (suc place) info e = row_struct items (plus n (in_item (i.Struct z))) more place info e
 row_struct items n (i.Function h ∷ more) place info e = row_struct items (plus n (in_item (i.Function h))) more place info e
 
@@ -137,7 +138,7 @@ module _ (items : List Item) (end : Span) (w : IsWellTyped items end) where
       let a = at_place (structs items) s c in
       let b = at_place (structs items) u d in
       let same : a.0 ≡ b.0 = omega (arith, e, number_at a.0 s a.1, number_at b.0 u b.1) in
-      some_is s u (sym a.1 ∙ (ap (slice_get (structs items)) same ∙ b.1))
+      same_Some s u (sym a.1 ∙ (ap (slice_get (structs items)) same ∙ b.1))
 
   pub field_in_table : (s : StructTree) (x : Id) (g : FieldTree) → Contains (structs items) s → find_field s x ≡ Some g → slice_get (program items).fields (field_number items s x) ≡ Some (field items s g)
   field_in_table s x g c e =
@@ -162,7 +163,7 @@ module _ (items : List Item) (end : Span) (w : IsWellTyped items end) where
       sides ∙ (in_range (first_row items q.index) (first_row items p.place) q.index p.place q.inner (length (fields q.of.members)) (length (fields p.tree.members)) inner
       (λ l. omega (arith, row_step items q.index q.of q.there, offset_grows (rows_of items) (structs items) (suc q.index) p.place (omega arith)))
       (λ l. omega (arith, row_step items p.place p.tree p.there, offset_grows (rows_of items) (structs items) (suc p.place) q.index (omega arith)))
-      (λ e. (ap (first_row items) e, ap (λ (z : StructTree). length (fields z.members)) (some_is q.of p.tree (sym q.there ∙ (ap (slice_get (structs items)) e ∙ p.there)))))
+      (λ e. (ap (first_row items) e, ap (λ (z : StructTree). length (fields z.members)) (same_Some q.of p.tree (sym q.there ∙ (ap (slice_get (structs items)) e ∙ p.there)))))
       ∙ sym range)
 
   -- a field's owner is a struct of the table

@@ -1,7 +1,7 @@
 -- The claims that statements tell are as many as are counted in them, and of their function; contracts tell none.
 use Rattle.std.specs.Prelude.{ℕ, zero, suc, ◌+◌, List, [], ◌∷◌, ◌++◌, length, map, flat_map, Option, Some, None, slice_get}
 use Rattle.std.proofs.Common.{◌≡◌, refl, sym, ap, ◌∙◌, inl, inr, arith}
-use Rattle.std.proofs.lemmas.Option.{none-some}
+use Rattle.std.proofs.lemmas.Option.{none-some, same_Some}
 use Rattle.std.proofs.lemmas.List.{length-append}
 use Rattle.c_syntax.specs.Ghosts as g
 use Rattle.c_syntax.specs.Ghosts.{GhostRhs, GStm, GStms}
@@ -14,7 +14,7 @@ use Rattle.typed_program.specs.Numbers.{Around}
 use Rattle.typed_program.specs.Statements.{in_maybe, in_ghost, in_ghosts, in_statement, in_statements, known_behind, known_behind_ghost}
 use Rattle.typed_program.specs.Sites.{Site, Told, Says, Makes, says, invariants_say, made, ghost_tells, ghosts_tell, tells, all_tell}
 use Rattle.typed_program.specs.Tables.{around_function, in_writes, listed_items, clause_tells, function_tells, sites_told}
-use Rattle.typed_laws.proofs.TableLists.{some_is, in_two}
+use Rattle.typed_laws.proofs.TableLists.{in_two}
 
 pub sites_append : (xs ys : List Told) → sites_told (xs ++ ys) ≡ sites_told xs ++ sites_told ys
 sites_append [] ys = refl
@@ -46,7 +46,7 @@ made_sited a f line (Some (g.Value x)) = no_sites f [] refl
 made_sited a f line (Some (g.MakeClaim p xs x)) = (refl, one)
   where
     one : (j : ℕ) (z : Site) → slice_get (sites_told (made a f line (Some (g.MakeClaim p xs x)))) j ≡ Some z → z.function ≡ f
-    one zero z e = sym (ap (λ (y : Site). y.function) (some_is _ z e))
+    one zero z e = sym (ap (λ (y : Site). y.function) (same_Some _ z e))
     one (suc j) z e = absurd (none-some z e)
 
 mutual

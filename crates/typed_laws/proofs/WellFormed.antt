@@ -12,9 +12,9 @@ use Rattle.tree_forms.specs.InForm.{in_form}
 use Rattle.typed_laws.specs.Law.{WellFormedLaw}
 use Rattle.typed_laws.proofs.Tests.{Tested}
 use Rattle.typed_laws.proofs.Facts.{FunctionOf}
-use Rattle.typed_laws.proofs.Entry.{entry_law}
 use Rattle.typed_laws.proofs.CodeValues.{code_law}
 use Rattle.typed_laws.proofs.Bridge.{bridge_law}
+use Rattle.typed_laws.proofs.Entry.{entry_law}
 use Rattle.typed_laws.proofs.StructTables.{structs_law, fields_law, field_structs_law}
 use Rattle.typed_laws.proofs.FunctionTables.{functions_law, tables_law, main_law}
 use Rattle.typed_laws.proofs.SiteTables.{sites_law}
