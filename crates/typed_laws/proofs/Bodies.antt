@@ -328,14 +328,14 @@ mutual
 
 -- ---- the law
 
--- `BodyLaw` where the types that functions name, and that of the function's own value, are known: without them the kind of a call, of a parameter or of what is returned is open, and nothing is asked of what stands there
-abbrev pub TypedBodyLaw : Type 0
-TypedBodyLaw =
+-- Statements that break no rule have code that fits, where the function has this number, they begin at these numbers, and the sites from there on are the function's. The types that functions name, and that of the function's own value, have to be known: otherwise the kind of a call, of a parameter or of what is returned is open, and nothing is asked of what stands there.
+abbrev pub BodyLaw : Type 0
+BodyLaw =
     (items : List Item) (p : Program) (f : FunctionInfo) → Tables items p → FunctionsTyped items → (a : Around) → InCode items f a → Where (λ ty. Typed items (kind_of items ty)) a.context.value → f.value ≡ option_map (declared_type items) a.context.value
     → (c : Context) → c.scope ≡ a.context.scope → c.value ≡ a.context.value → IsTrue (runs c.text) → c.in_atomic ≡ false →
     (k : ℕ) (n : Before) (ss : Stms) → IsTrue (form.in_statements ss) → Quiet (pieces.in_statements c ss) → ((v : Variable) → Contains (all_declared ss) v → Numbered items f a.names v) → SitesOf p k n.sites (n.sites + (s.in_statements ss).sites) → IsTrue (row_ok p f k (rows a n ss))
 
-pub body_law : CodeLaw → TypedBodyLaw
+pub body_law : CodeLaw → BodyLaw
 body_law law items p f tables functions_typed a around_it value_typed value_is c scope_is same_value rn outside k n ss ok q h sites =
     let o : Setting = record { items = items; program = p; info = f; tables = tables; law = law; functions_typed = functions_typed; value = a.context.value; value_typed = value_typed; value_is = value_is; names = a.names; number = k } in
     let vs = a.context.scope.variables in

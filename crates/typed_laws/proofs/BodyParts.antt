@@ -12,9 +12,6 @@ use Rattle.typed_laws.proofs.Quiet.{not_placed}
 
 -- ---- truth values
 
-pub is_true : {A : Type 0} (b : Bool) → b ≡ false → IsTrue b → A
-is_true b h j = absurd (true≢false (sym j ∙ h))
-
 -- ---- whole numbers
 
 pub equal_numbers : (m n : ℕ) → m ≡ n → IsTrue (m == n)
