@@ -3,5 +3,3 @@
 
 pub mod certificate;
 pub mod decode;
-#[cfg(test)]
-mod tests;

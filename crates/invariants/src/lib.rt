@@ -2,6 +2,4 @@
 #![tactic(auto)]
 
 pub mod invariant;
-#[cfg(test)]
-mod tests;
 pub mod touched;

@@ -8,6 +8,4 @@ pub mod records;
 pub mod references;
 pub mod sets;
 pub mod shapes;
-#[cfg(test)]
-mod tests;
 pub mod values;

@@ -6,5 +6,3 @@ pub mod laws;
 pub mod search;
 pub mod stable;
 pub mod status;
-#[cfg(test)]
-mod tests;

@@ -8,7 +8,5 @@ pub mod eval;
 mod expression;
 mod place;
 mod status;
-#[cfg(test)]
-mod tests;
 mod values;
 mod words;

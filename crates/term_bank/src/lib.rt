@@ -3,5 +3,3 @@
 
 pub mod bank;
 pub mod law;
-#[cfg(test)]
-mod tests;

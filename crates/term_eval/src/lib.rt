@@ -3,5 +3,3 @@
 
 pub mod literal;
 pub mod meaning;
-#[cfg(test)]
-mod tests;

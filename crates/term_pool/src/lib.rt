@@ -101,5 +101,3 @@ impl<T: Drop> Pool<T> {
     }
 }
 
-#[cfg(test)]
-mod tests;

@@ -7,6 +7,4 @@ pub mod limit;
 pub mod memory;
 pub mod sink;
 pub mod store;
-#[cfg(test)]
-mod tests;
 pub mod whole;

@@ -11,11 +11,3 @@ pub mod report;
 
 pub use main_call::vcc_main;
 
-#[cfg(test)]
-mod condition_tests;
-#[cfg(test)]
-mod source_tests;
-#[cfg(test)]
-mod tests;
-#[cfg(test)]
-mod typing_tests;

@@ -22,8 +22,6 @@ pub mod laws;
 pub mod numbers;
 pub mod place;
 pub mod signs;
-#[cfg(test)]
-mod tests;
 pub mod words;
 
 /// How many tokens a source may have, its end not counted.

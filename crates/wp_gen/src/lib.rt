@@ -4,6 +4,4 @@
 pub mod condition;
 pub mod law;
 mod number;
-#[cfg(test)]
-mod tests;
 pub mod walk;

@@ -1,0 +1,11 @@
+//! Tests of the command `check`, apart from its crate: a crate with tests is proved twice.
+#![tactic(auto)]
+
+#[cfg(test)]
+mod commands;
+#[cfg(test)]
+mod conditions;
+#[cfg(test)]
+mod sources;
+#[cfg(test)]
+mod typing;

@@ -1,0 +1,922 @@
+//! Whole sources, with the lines that `check` prints for them: each row of the grammar once as it is, and broken where it can
+//! break. The expected places were marked by hand, from the grammar and the notes of docs/LANGUAGE.md; what reads has the first
+//! typing rule that it breaks, from docs/TYPING.md.
+
+use std::alloc::{AllocError, Global};
+use std::process::Abort;
+use std::test::Fail;
+use vcc_base::memory::{MemSink, MemStore};
+use vcc_cli::vcc_main;
+
+/// Structs: attributes, members, types.
+const STRUCTS: &[(&str, &str)] = &[
+    ("", "source 1:1: rule 24"),
+    ("struct A { int x; };", "source 1:21: rule 24"),
+    ("_(claimable) struct A { int x; };", "source 1:34: rule 24"),
+    (
+        "_(claimable, volatile_owns) struct A { };",
+        "source 1:36: rule 23",
+    ),
+    (
+        "_(dynamic_owns) _(claimable) struct A { volatile int x; };",
+        "source 1:59: rule 24",
+    ),
+    ("_(claimable,) struct A { };", "source 1:13: syntax 1"),
+    (
+        "_(claimable dynamic_owns) struct A { };",
+        "source 1:13: syntax 1",
+    ),
+    ("_(assume) struct A { };", "source 1:3: syntax 2"),
+    ("_(requires 1) struct A { };", "source 1:3: syntax 1"),
+    ("_(claimable) void f() {}", "source 1:14: syntax 1"),
+    ("struct A { int x; }", "source 1:20: syntax 1"),
+    ("struct A ;", "source 1:10: syntax 1"),
+    ("struct { };", "source 1:8: syntax 1"),
+    ("struct A { int ; };", "source 1:16: syntax 1"),
+    ("struct A { int x };", "source 1:18: syntax 1"),
+    (
+        "struct A { volatile volatile int x; };",
+        "source 1:21: syntax 1",
+    ),
+    ("struct A { void x; };", "source 1:12: syntax 1"),
+    ("struct A { int x, y; };", "source 1:17: syntax 1"),
+    (
+        "struct A { struct A *next; unsigned n; unsigned int k; long long l; unsigned long long m; long long int o; unsigned long long int q; };",
+        "source 1:136: rule 24",
+    ),
+    ("struct A { long int x; };", "source 1:17: syntax 1"),
+    ("struct A { struct B x; };", "source 1:21: syntax 1"),
+    ("struct A { _(invariant \\true) };", "source 1:8: rule 23"),
+    ("struct A { _(invariant ) };", "source 1:24: syntax 1"),
+    (
+        "struct A { _(ghost \\object o;) _(ghost volatile \\claim c) };",
+        "source 1:61: rule 24",
+    ),
+    ("struct A { _(ghost int x;;) };", "source 1:26: syntax 1"),
+    ("struct A { _(wrap x) };", "source 1:14: syntax 1"),
+    ("struct A { _(while x) };", "source 1:14: syntax 2"),
+    ("struct A { \\object o; };", "source 1:12: syntax 1"),
+];
+
+/// Functions: results, parameters, contracts.
+const FUNCTIONS: &[(&str, &str)] = &[
+    ("void f() {}", "source 1:12: rule 24"),
+    ("void f(void) {}", "source 1:16: rule 24"),
+    ("int f(int a, struct A *b) {}", "source 1:21: rule 1"),
+    ("struct A *f() {}", "source 1:8: rule 1"),
+    (
+        "unsigned long long f(_(ghost \\claim c) _(ghost \\object o)) {}",
+        "source 1:61: rule 21",
+    ),
+    ("void f(int a,) {}", "source 1:14: syntax 1"),
+    ("void f(void, int a) {}", "source 1:12: syntax 1"),
+    ("void f(a) {}", "source 1:8: syntax 1"),
+    ("void f(int a int b) {}", "source 1:14: syntax 1"),
+    ("void f() ;", "source 1:10: syntax 1"),
+    ("void (int x) {}", "source 1:6: syntax 1"),
+    ("f() {}", "source 1:1: syntax 1"),
+    ("void f() {", "source 1:11: syntax 1"),
+    ("void f() {} }", "source 1:13: syntax 1"),
+    ("int f;", "source 1:6: syntax 1"),
+    ("struct A f() {}", "source 1:10: syntax 1"),
+    ("void f(_(wrap) c) {}", "source 1:10: syntax 1"),
+    ("void f(_(ghost int c;)) {}", "source 1:21: syntax 1"),
+    (
+        "void f() _(requires 1) _(ensures \\result == 1) _(maintains \\true) _(writes a, \\span(b), \\extent(c)) {}",
+        "source 1:34: rule 18",
+    ),
+    ("void f() _(writes ) {}", "source 1:19: syntax 1"),
+    ("void f() _(writes a,) {}", "source 1:21: syntax 1"),
+    ("void f() _(writes \\span a) {}", "source 1:25: syntax 1"),
+    ("void f() _(assume 1) {}", "source 1:12: syntax 2"),
+    ("void f() _(assert 1) {}", "source 1:12: syntax 1"),
+    ("void f() _(requires 1;) {}", "source 1:22: syntax 1"),
+    ("void f() _(NULL) {}", "source 1:12: syntax 2"),
+    ("void f() _(int) {}", "source 1:12: syntax 2"),
+    ("void f() _(1) {}", "source 1:12: syntax 1"),
+    ("void f() _(\\true) {}", "source 1:12: syntax 1"),
+    ("void f() _() {}", "source 1:12: syntax 1"),
+    ("void f() _(claimed) {}", "source 1:12: syntax 2"),
+];
+
+/// Blocks, declarations and allocations.
+const DECLARATIONS: &[(&str, &str)] = &[
+    ("void f() { { ; } ; }", "source 1:21: rule 24"),
+    (
+        "void f() { int x; int y = 1; struct A *p = NULL; unsigned z = g(); }",
+        "source 1:37: rule 1",
+    ),
+    (
+        "void f() { int x = g(1, 2 _(ghost c)); }",
+        "source 1:20: rule 1",
+    ),
+    (
+        "void f() { struct A *p = malloc(sizeof(struct A)); struct A *q = (struct A *) malloc(sizeof(struct A)); }",
+        "source 1:19: rule 1",
+    ),
+    ("void f() { int = 1; }", "source 1:16: syntax 1"),
+    ("void f() { int x = ; }", "source 1:20: syntax 1"),
+    ("void f() { int x y; }", "source 1:18: syntax 1"),
+    ("void f() { int x, y; }", "source 1:17: syntax 1"),
+    ("void f() { struct A p; }", "source 1:21: syntax 1"),
+    (
+        "void f() { x = malloc sizeof(struct A); }",
+        "source 1:23: syntax 1",
+    ),
+    (
+        "void f() { x = malloc(struct A); }",
+        "source 1:23: syntax 1",
+    ),
+    (
+        "void f() { x = malloc(sizeof struct A); }",
+        "source 1:30: syntax 1",
+    ),
+    (
+        "void f() { x = malloc(sizeof(int)); }",
+        "source 1:30: syntax 1",
+    ),
+    (
+        "void f() { x = malloc(sizeof(struct A); }",
+        "source 1:39: syntax 1",
+    ),
+    (
+        "void f() { x = (struct A) malloc(sizeof(struct A)); }",
+        "source 1:25: syntax 1",
+    ),
+    ("void f() { x = (struct A *) y; }", "source 1:29: syntax 1"),
+    ("void f() { int if; }", "source 1:16: syntax 1"),
+    ("void f() { int NULL; }", "source 1:16: syntax 1"),
+    ("void f() { int assert; }", "source 1:16: syntax 1"),
+    ("void f() { int goto = 1; }", "source 1:27: rule 24"),
+    ("void f() { int 1x; }", "source 1:16: token 2"),
+];
+
+/// Assignments and Interlocked calls.
+const ASSIGNMENTS: &[(&str, &str)] = &[
+    (
+        "void f() { x = 1; p->f = 1; p->f->g += 2; (p)->f -= 1; x++; x--; p->f++; }",
+        "source 1:12: rule 1",
+    ),
+    ("void f() { NULL->f = 1; 5->f = 1; }", "source 1:16: rule 6"),
+    (
+        "void f() { x = InterlockedCompareExchange(&p->f, 1, 0) == 0; x = InterlockedIncrement(&p->f); x = InterlockedDecrement(&(p)->g->f); x = InterlockedExchange(&p->f, 1) != y; }",
+        "source 1:12: rule 1",
+    ),
+    (
+        "void f() { x = InterlockedExchange(&p->f, 1) == a && b; }",
+        "source 1:12: rule 1",
+    ),
+    ("void f() { 5; }", "source 1:13: syntax 1"),
+    ("void f() { 5 + 1; }", "source 1:14: syntax 1"),
+    ("void f() { !p->x = 1; }", "source 1:12: syntax 1"),
+    ("void f() { a + b->x = 1; }", "source 1:14: syntax 1"),
+    ("void f() { x; }", "source 1:13: syntax 1"),
+    ("void f() { p->f; }", "source 1:16: syntax 1"),
+    ("void f() { p->1 = 2; }", "source 1:15: syntax 1"),
+    ("void f() { x = 1 y = 2; }", "source 1:18: syntax 1"),
+    ("void f() { x += ; }", "source 1:17: syntax 1"),
+    ("void f() { x ++ 1; }", "source 1:17: syntax 1"),
+    ("void f() { x == 1; }", "source 1:14: syntax 1"),
+    ("void f() { (p); }", "source 1:15: syntax 1"),
+    ("void f() { p->wrap = 1; }", "source 1:15: syntax 1"),
+    ("void f() { p->free = 1; }", "source 1:15: syntax 1"),
+    ("void f() { p.x = 1; }", "source 1:13: syntax 1"),
+    ("void f() { a[0] = 1; }", "source 1:13: syntax 1"),
+    (
+        "void f() { x = InterlockedIncrement(p->f); }",
+        "source 1:37: syntax 1",
+    ),
+    (
+        "void f() { x = InterlockedIncrement(&p); }",
+        "source 1:39: syntax 1",
+    ),
+    (
+        "void f() { InterlockedIncrement(&p->f); }",
+        "source 1:12: syntax 1",
+    ),
+    (
+        "void f() { x = InterlockedIncrement(&p->f) + 1; }",
+        "source 1:44: syntax 1",
+    ),
+    (
+        "void f() { x = InterlockedIncrement(&5 + p->f); }",
+        "source 1:40: syntax 1",
+    ),
+];
+
+/// Calls, spawns, `free` and `return`.
+const CALLS: &[(&str, &str)] = &[
+    (
+        "void f() { f(); f(1, x); f(_(ghost c)); f(1 _(ghost c) _(ghost d)); x = f(); p->f = g(1); }",
+        "source 1:17: rule 5",
+    ),
+    (
+        "void f() { vcc_spawn(f); vcc_spawn(f, 1, x _(ghost c)); vcc_spawn(f,); vcc_spawn(f, _(ghost c)); }",
+        "source 1:36: rule 5",
+    ),
+    (
+        "void f() { free(p); free(p->q); return; return 1; }",
+        "source 1:17: rule 1",
+    ),
+    ("void f() { f(1,); }", "source 1:16: syntax 1"),
+    ("void f() { f(, 1); }", "source 1:14: syntax 1"),
+    ("void f() { f(1; }", "source 1:15: syntax 1"),
+    ("void f() { f() g(); }", "source 1:16: syntax 1"),
+    ("void f() { f(1, _(ghost c)); }", "source 1:17: syntax 1"),
+    ("void f() { f(_(wrap c)); }", "source 1:16: syntax 1"),
+    ("void f() { x = f() + 1; }", "source 1:20: syntax 1"),
+    ("void f() { p->f(); }", "source 1:16: syntax 1"),
+    ("void f() { (f)(); }", "source 1:15: syntax 1"),
+    ("void f() { f(g()); }", "source 1:15: syntax 1"),
+    ("void f() { vcc_spawn(); }", "source 1:22: syntax 1"),
+    (
+        "void f() { vcc_spawn(f _(ghost c)); }",
+        "source 1:24: syntax 1",
+    ),
+    ("void f() { vcc_spawn(f, 1,); }", "source 1:27: syntax 1"),
+    ("void f() { x = vcc_spawn(f); }", "source 1:16: syntax 1"),
+    ("void f() { free(); }", "source 1:17: syntax 1"),
+    ("void f() { free(p, q); }", "source 1:18: syntax 1"),
+    ("void f() { free p; }", "source 1:17: syntax 1"),
+    ("void f() { return 1 2; }", "source 1:21: syntax 1"),
+    ("void f() { return f(); }", "source 1:20: syntax 1"),
+    ("void f() { return }", "source 1:19: syntax 1"),
+];
+
+/// Branches and loops.
+const BRANCHES: &[(&str, &str)] = &[
+    ("void f() { if (1) ; else ; }", "source 1:29: rule 24"),
+    ("void f() { if (a) if (b) ; else ; }", "source 1:16: rule 1"),
+    (
+        "void f() { if (a) { if (b) ; } else if (c) ; else { } }",
+        "source 1:16: rule 1",
+    ),
+    (
+        "void f() { while (1) ; while (1) _(invariant 1) _(invariant a ==> b) { } }",
+        "source 1:61: rule 1",
+    ),
+    (
+        "void f() { do ; while (1); do _(invariant 1) { } while (x); }",
+        "source 1:57: rule 1",
+    ),
+    (
+        "void f() { for (;1;) ; for (i = 0; i < 1; i++) _(invariant 1) x = 1; for (x = f(); 1; p->f += 2) { } }",
+        "source 1:29: rule 1",
+    ),
+    ("void f() { if 1 ; }", "source 1:15: syntax 1"),
+    ("void f() { if () ; }", "source 1:16: syntax 1"),
+    ("void f() { else ; }", "source 1:12: syntax 1"),
+    (
+        "void f() { if (1) ; else ; else ; }",
+        "source 1:28: syntax 1",
+    ),
+    ("void f() { if (a = 1) ; }", "source 1:18: syntax 1"),
+    (
+        "void f() { while (1) _(invariant ) ; }",
+        "source 1:34: syntax 1",
+    ),
+    ("void f() { while () ; }", "source 1:19: syntax 1"),
+    (
+        "void f() { while (1) _(requires 1) ; }",
+        "source 1:24: syntax 1",
+    ),
+    ("void f() { do ; x = 1; }", "source 1:17: syntax 1"),
+    ("void f() { for (;;) ; }", "source 1:18: syntax 1"),
+    (
+        "void f() { for (int i = 0; 1;) ; }",
+        "source 1:17: syntax 1",
+    ),
+    ("void f() { for (i = 0; 1) ; }", "source 1:25: syntax 1"),
+    ("void f() { for (;1;;) ; }", "source 1:20: syntax 1"),
+    ("void f() { for (f(); 1;) ; }", "source 1:18: syntax 1"),
+    ("void f() { if (1) }", "source 1:19: syntax 1"),
+    (
+        "void f() { while (1) _(invariant 1) }",
+        "source 1:37: syntax 1",
+    ),
+    ("void f() { do ; while (1) }", "source 1:27: syntax 1"),
+    ("void f() { do while (1); }", "source 1:26: syntax 1"),
+];
+
+/// Forms behind `_(`, in their place and out of it.
+const ANNOTATIONS: &[(&str, &str)] = &[
+    (
+        "void f() { _(assert 1) _(ghost x = 1) _(ghost x = 1;) _(wrap p) _(unwrap p) _(unwrapping p) { } _(atomic p, q) { x = 1; } }",
+        "source 1:32: rule 1",
+    ),
+    (
+        "void f() { if (1) _(assert 1) else _(wrap p) }",
+        "source 1:43: rule 1",
+    ),
+    ("void f() { _(assert ) }", "source 1:21: syntax 1"),
+    ("void f() { _(requires 1) }", "source 1:14: syntax 1"),
+    ("void f() { _(invariant 1) }", "source 1:14: syntax 1"),
+    ("void f() { _(\\true) }", "source 1:14: syntax 1"),
+    ("void f() { _(1) }", "source 1:14: syntax 1"),
+    ("void f() { _(claimable) }", "source 1:14: syntax 1"),
+    ("void f() { _(wrap \\this) }", "source 1:19: syntax 1"),
+    ("void f() { _(unwrapping p) ; }", "source 1:28: syntax 1"),
+    ("void f() { _(atomic ) { } }", "source 1:21: syntax 1"),
+    ("void f() { _(atomic p,) { } }", "source 1:23: syntax 1"),
+    ("void f() { _(atomic p) x = 1; }", "source 1:24: syntax 1"),
+    ("void f() { _(assert 1;) }", "source 1:22: syntax 1"),
+    ("void f() { x = 1 _(assume 1); }", "source 1:18: syntax 1"),
+    ("void f() { _(ghost ) }", "source 1:20: syntax 1"),
+    ("void f() { _(\\assume 1) }", "source 1:14: syntax 1"),
+    ("void f() { _(atomic \\me) { } }", "source 1:21: syntax 1"),
+    ("void f() { _(wrap p, q) }", "source 1:20: syntax 1"),
+    ("void f() { _(assume \\false) }", "source 1:14: syntax 2"),
+    ("void f() { _(foo) }", "source 1:14: syntax 2"),
+    ("void f() { _(int x) }", "source 1:14: syntax 2"),
+    ("void f() { _(while (1)) }", "source 1:14: syntax 2"),
+    ("void f() { _(NULL) }", "source 1:14: syntax 2"),
+    ("void f() { _(malloc) }", "source 1:14: syntax 2"),
+];
+
+/// Ghost statements.
+const GHOSTS: &[(&str, &str)] = &[
+    (
+        "void f() { _(ghost { a = 1; b = 2; }) _(ghost { }) _(ghost { x = 1 y = 2 }) }",
+        "source 1:22: rule 1",
+    ),
+    (
+        "void f() { _(ghost \\claim c) _(ghost \\object o = x;) _(ghost struct A *p = NULL) }",
+        "source 1:50: rule 1",
+    ),
+    (
+        "void f() { _(ghost c = \\make_claim({p, q}, a ==> b)) _(ghost \\destroy_claim(c, {p})) }",
+        "source 1:20: rule 1",
+    ),
+    (
+        "void f() { _(ghost p->\\owns = {}) _(ghost p->\\owns += q) _(ghost p->q->\\owns -= {q, r}) }",
+        "source 1:20: rule 1",
+    ),
+    (
+        "void f() { _(ghost _(wrap p)) _(ghost _(unwrap p);) }",
+        "source 1:27: rule 1",
+    ),
+    (
+        "void f() { _(ghost if (a) x = 1; else y = 2;) }",
+        "source 1:24: rule 1",
+    ),
+    (
+        "void f() { _(ghost if (a) if (b) x = 1;;;) }",
+        "source 1:24: rule 1",
+    ),
+    (
+        "void f() { _(ghost if (a) { } else { }) }",
+        "source 1:24: rule 1",
+    ),
+    (
+        "void f() { _(ghost if (a) if (b) x = 1;;;;) }",
+        "source 1:42: syntax 1",
+    ),
+    (
+        "void f() { _(ghost if (a) { } ; else x = 1;) }",
+        "source 1:33: syntax 1",
+    ),
+    ("void f() { _(ghost x += 1) }", "source 1:22: syntax 1"),
+    (
+        "void f() { _(ghost p->\\owns = q) }",
+        "source 1:31: syntax 1",
+    ),
+    (
+        "void f() { _(ghost p->\\owns += ) }",
+        "source 1:32: syntax 1",
+    ),
+    (
+        "void f() { _(ghost c = \\make_claim(p, 1)) }",
+        "source 1:36: syntax 1",
+    ),
+    (
+        "void f() { _(ghost c = \\make_claim({p})) }",
+        "source 1:39: syntax 1",
+    ),
+    (
+        "void f() { _(ghost \\destroy_claim(c)) }",
+        "source 1:36: syntax 1",
+    ),
+    ("void f() { _(ghost x = \\me) }", "source 1:24: syntax 1"),
+    ("void f() { _(ghost f()) }", "source 1:21: syntax 1"),
+    ("void f() { _(ghost _(assert 1)) }", "source 1:22: syntax 1"),
+    ("void f() { _(ghost return) }", "source 1:20: syntax 1"),
+    ("void f() { _(ghost x = 1 y = 2) }", "source 1:26: syntax 1"),
+    ("void f() { _(ghost while (1) ;) }", "source 1:20: syntax 1"),
+    (
+        "void f() { _(ghost int x = 1, y) }",
+        "source 1:29: syntax 1",
+    ),
+    (
+        "void f() { _(ghost p->\\owns->f = 1) }",
+        "source 1:28: syntax 1",
+    ),
+    ("void f() { _(ghost p->\\owns ) }", "source 1:29: syntax 1"),
+    (
+        "void f() { _(ghost p->\\owns = {q,}) }",
+        "source 1:34: syntax 1",
+    ),
+    ("void f() { _(ghost _(foo 1)) }", "source 1:22: syntax 2"),
+];
+
+/// Expressions of code.
+const EXPRESSIONS: &[(&str, &str)] = &[
+    ("void f() { x = a ? b : c ? d : e; }", "source 1:12: rule 1"),
+    (
+        "void f() { x = -a * !b / -(c) % 2 - 1 <= 3 == 4 != 5 && 6 || 7; }",
+        "source 1:12: rule 1",
+    ),
+    (
+        "void f() { x = 0x1F + 1u + 2ll + 3ULL + 4llu; }",
+        "source 1:12: rule 1",
+    ),
+    ("void f() { x = p->a->b; }", "source 1:12: rule 1"),
+    (
+        "void f() { x = a < b < c > d >= e; }",
+        "source 1:12: rule 1",
+    ),
+    ("void f() { x = a ? b; }", "source 1:21: syntax 1"),
+    ("void f() { x = a ? : b; }", "source 1:20: syntax 1"),
+    ("void f() { x = a ==> b; }", "source 1:18: syntax 1"),
+    ("void f() { x = a <==> b; }", "source 1:18: syntax 1"),
+    ("void f() { x = \\true; }", "source 1:16: syntax 1"),
+    ("void f() { x = a +; }", "source 1:19: syntax 1"),
+    ("void f() { x = (a; }", "source 1:18: syntax 1"),
+    ("void f() { x = a & b; }", "source 1:18: syntax 1"),
+    ("void f() { x = y = 1; }", "source 1:18: syntax 1"),
+    ("void f() { x = * p; }", "source 1:16: syntax 1"),
+    ("void f() { x = +1; }", "source 1:16: syntax 1"),
+    ("void f() { x = a->\\owns; }", "source 1:19: syntax 1"),
+    ("void f() { x = a \\in b; }", "source 1:18: syntax 1"),
+    ("void f() { x = (); }", "source 1:17: syntax 1"),
+    ("void f() { x = a | b; }", "source 1:18: syntax 1"),
+    ("void f() { x = a ~ b; }", "source 1:18: syntax 1"),
+];
+
+/// Expressions of annotations.
+const SPECS: &[(&str, &str)] = &[
+    (
+        "void f() { _(assert a ==> b ==> c) }",
+        "source 1:21: rule 1",
+    ),
+    (
+        "void f() { _(assert a <==> b <==> c) }",
+        "source 1:21: rule 1",
+    ),
+    (
+        "void f() { _(assert (a ==> b) && c) }",
+        "source 1:22: rule 1",
+    ),
+    (
+        "void f() { _(assert \\forall int i; i < 1 ==> \\exists \\object o; o == p) }",
+        "source 1:21: rule 16",
+    ),
+    (
+        "void f() { _(assert p \\in q->\\owns) }",
+        "source 1:21: rule 1",
+    ),
+    (
+        "void f() { _(assert p \\in q->r->\\owns == 1) }",
+        "source 1:21: rule 1",
+    ),
+    (
+        "void f() { _(assert a == p \\in \\this->\\owns) }",
+        "source 1:21: rule 1",
+    ),
+    (
+        "void f() { _(assert \\old(a ==> b) == \\unchanged(c)) }",
+        "source 1:26: rule 1",
+    ),
+    (
+        "void f() { _(assert \\mine(a, b) && \\wrapped(p) && \\wrapped0(p) && \\mutable(p) && \\fresh(p)) }",
+        "source 1:21: rule 19",
+    ),
+    (
+        "void f() { _(assert \\claims_object(c, p) && \\claims(c, a ==> b)) }",
+        "source 1:36: rule 1",
+    ),
+    (
+        "void f() { _(assert p->\\closed && p->\\owner == \\me && p->\\claim_count == 0) }",
+        "source 1:21: rule 1",
+    ),
+    (
+        "void f() { _(assert \\this == \\result || \\false || !\\true) }",
+        "source 1:21: rule 19",
+    ),
+    (
+        "void f() { _(assert \\wrapped((a ==> b)) && \\wrapped(\\result)) }",
+        "source 1:31: rule 1",
+    ),
+    (
+        "void f() { _(assert \\forall struct A *p; \\forall \\claim c; p == q <==> c->\\closed) }",
+        "source 1:21: rule 16",
+    ),
+    (
+        "void f() { _(assert a ? \\forall int i; 1 : 2) }",
+        "source 1:21: rule 1",
+    ),
+    (
+        "void f() { _(assert \\wrapped(a ==> b)) }",
+        "source 1:32: syntax 1",
+    ),
+    (
+        "void f() { _(assert a ? b ==> c : d) }",
+        "source 1:27: syntax 1",
+    ),
+    ("void f() { _(assert p \\in ) }", "source 1:27: syntax 1"),
+    ("void f() { _(assert p \\in q) }", "source 1:28: syntax 1"),
+    (
+        "void f() { _(assert p \\in q->f) }",
+        "source 1:31: syntax 1",
+    ),
+    ("void f() { _(assert \\mine()) }", "source 1:27: syntax 1"),
+    (
+        "void f() { _(assert \\forall i; 1) }",
+        "source 1:29: syntax 1",
+    ),
+    (
+        "void f() { _(assert \\forall int i 1) }",
+        "source 1:35: syntax 1",
+    ),
+    (
+        "void f() { _(assert \\forall int i; ) }",
+        "source 1:36: syntax 1",
+    ),
+    ("void f() { _(assert \\old a) }", "source 1:26: syntax 1"),
+    (
+        "void f() { _(assert \\claims_object(c)) }",
+        "source 1:37: syntax 1",
+    ),
+    ("void f() { _(assert \\span(p)) }", "source 1:21: syntax 1"),
+    ("void f() { _(assert p->\\owns) }", "source 1:24: syntax 1"),
+    ("void f() { _(assert \\foo) }", "source 1:21: syntax 1"),
+    ("void f() { _(assert a ==> ) }", "source 1:27: syntax 1"),
+    (
+        "void f() { _(assert _(assert 1)) }",
+        "source 1:21: syntax 1",
+    ),
+    ("void f() { _(assert a b) }", "source 1:23: syntax 1"),
+    (
+        "void f() { _(assert \\claims(c)) }",
+        "source 1:30: syntax 1",
+    ),
+    ("void f() { _(assert p->\\mine) }", "source 1:24: syntax 1"),
+    ("void f() { _(assert \\mine(a,)) }", "source 1:29: syntax 1"),
+    (
+        "void f() { _(assert p \\in q->\\owns->f) }",
+        "source 1:35: syntax 1",
+    ),
+    ("void f() { _(assert \\object) }", "source 1:21: syntax 1"),
+];
+
+/// Tokens, which come before the grammar.
+const TOKENS: &[(&str, &str)] = &[
+    (
+        "#include <vcc.h>\nvoid f() { /* x */ // y\n }",
+        "source 3:3: rule 24",
+    ),
+    ("#include <x.h>\nvoid f() {}", "source 1:1: token 1"),
+    ("void f() { /* x", "source 1:12: token 3"),
+    ("void f() { \" }", "source 1:12: token 1"),
+    ("void f() { \\ }", "source 1:12: token 1"),
+    ("void f() { x = 08; }", "source 1:16: token 2"),
+    ("void f() { 08; }", "source 1:12: token 2"),
+    ("void f() { x = 1uu; }", "source 1:16: token 2"),
+    ("void f() { x = 0x; }", "source 1:16: token 2"),
+    (
+        "void f() { x = 18446744073709551616u; }",
+        "source 1:16: token 2",
+    ),
+    (
+        "void f() {\n\tx = 9223372036854775808;\n}",
+        "source 2:6: token 2",
+    ),
+    ("void f() { 5; $ }", "source 1:15: token 1"),
+    ("void f() {\r\n ' }", "source 2:2: token 1"),
+];
+
+/// A source of repeated pieces: a front, so many of one piece, a middle, as many of another, and an end.
+type Repeated<'a> = (&'a str, &'a str, &'a str, &'a str, &'a str);
+
+/// Sources that reach the greatest height with this many pieces, and pass it with one more. They break no typing rule.
+const DEEP: &[(Repeated<'static>, usize)] = &[
+    (("void main(int x) { x = ", "(", "0", ")", "; }"), 196),
+    (("void main(int x) { x = ", "!", "x", "", "; }"), 196),
+    (("void main(int x) { x = ", "- ", "x", "", "; }"), 196),
+    (("void main(int x) { x = x", " + x", "", "", "; }"), 196),
+    (("void main(int x) { x = ", "x ? x : ", "x", "", "; }"), 196),
+    (
+        (
+            "struct A { struct A *f; }; void main(struct A *x) { x = x",
+            "->f",
+            "",
+            "",
+            "; }",
+        ),
+        196,
+    ),
+    (("void main() { ", "{", "", "}", " }"), 198),
+    (("void main() { ", "if (1) ", ";", "", " }"), 197),
+    (("void main() { ", "if (1) ; else ", ";", "", " }"), 197),
+    (("void main() { ", "while (1) ", ";", "", " }"), 197),
+    (("void main() { ", "do ", ";", " while (1);", " }"), 197),
+    (
+        (
+            "void main(int x) { _(assert ",
+            "\\unchanged(",
+            "x",
+            ")",
+            ") }",
+        ),
+        196,
+    ),
+    (
+        ("void main(int x) { _(assert x", " ==> x", "", "", ") }"),
+        196,
+    ),
+    (
+        ("void main(int x) { _(assert x", " <==> x", "", "", ") }"),
+        196,
+    ),
+    (
+        (
+            "struct A { int v; }; void main(struct A *p) { _(assert ",
+            "\\forall \\object o; o \\in p->\\owns ==> ",
+            "1",
+            "",
+            ") }",
+        ),
+        97,
+    ),
+    (
+        (
+            "void main(_(ghost int x)) { _(ghost ",
+            "if (x) ",
+            "x = 1",
+            "",
+            ") }",
+        ),
+        195,
+    ),
+    (
+        (
+            "struct A { int x; _(invariant ",
+            "(",
+            "x",
+            ")",
+            ") }; void main() {}",
+        ),
+        197,
+    ),
+    (("void main(int x) _(requires ", "(", "x", ")", ") {}"), 197),
+];
+
+/// The lock with its two threads.
+const LOCK: &str = "#include <vcc.h>
+struct Data {
+  int v;
+  _(invariant v >= 0)
+};
+_(claimable, volatile_owns) struct Lock {
+  volatile int locked;
+  _(ghost \\object protected_obj;)
+  _(invariant locked == 0 ==> \\mine(protected_obj))
+};
+void InitializeLock(struct Lock *l _(ghost \\object obj))
+  _(writes \\span(l), obj)
+  _(requires \\wrapped(obj))
+  _(ensures \\wrapped(l) && l->protected_obj == obj)
+{
+  l->locked = 0;
+  _(ghost l->protected_obj = obj;)
+  _(ghost l->\\owns = {obj};)
+  _(wrap l)
+}
+void Acquire(struct Lock *l _(ghost \\claim c))
+  _(maintains \\wrapped(c) && \\claims_object(c, l))
+  _(ensures \\wrapped(l->protected_obj) && \\fresh(l->protected_obj))
+{
+  int stop = 0;
+  do {
+    _(atomic c, l) {
+      stop = InterlockedCompareExchange(&l->locked, 1, 0) == 0;
+      _(ghost if (stop) l->\\owns -= l->protected_obj;)
+    }
+  } while (!stop);
+}
+void Release(struct Lock *l _(ghost \\claim c))
+  _(requires l->protected_obj != c)
+  _(maintains \\wrapped(c) && \\claims_object(c, l))
+  _(requires \\wrapped(l->protected_obj))
+  _(writes l->protected_obj)
+{
+  _(atomic c, l) {
+    l->locked = 0;
+    _(ghost l->\\owns += l->protected_obj;)
+  }
+}
+void Worker(struct Lock *l, struct Data *d _(ghost \\claim c))
+  _(requires \\wrapped(c) && \\claims_object(c, l) && l->protected_obj == d)
+  _(writes c)
+{
+  Acquire(l _(ghost c));
+  _(unwrap d)
+  d->v = 1;
+  _(wrap d)
+  Release(l _(ghost c));
+}
+void main()
+{
+  struct Lock *l = malloc(sizeof(struct Lock));
+  struct Data *d = malloc(sizeof(struct Data));
+  if (l != NULL && d != NULL) {
+    d->v = 0;
+    _(wrap d)
+    InitializeLock(l _(ghost d));
+    _(ghost \\claim a = \\make_claim({l}, \\true);)
+    _(ghost \\claim b = \\make_claim({l}, \\true);)
+    vcc_spawn(Worker, l, d _(ghost a));
+    vcc_spawn(Worker, l, d _(ghost b));
+  }
+}
+";
+
+/// The line and the status of a check of this source, with a certificate of no conditions.
+pub fn checked(alloc: Global, source: &str) -> Result<(String, u8), Fail> {
+    let mut words = Vec::new(alloc);
+    for word in ["check", "s.c", "C"] {
+        words.push(String::from_str(alloc, word)?)?;
+    }
+    let mut store = MemStore::new(alloc, Vec::new(alloc));
+    store.hold("s.c", source.as_bytes())?;
+    store.hold("C", b"vcc-cert 1\nconditions 0\nend\n")?;
+    let mut out = MemSink::new(alloc, Vec::new(alloc));
+    let status = vcc_main(alloc, &words, &mut store, &mut out);
+    let mut text = String::new(alloc);
+    for byte in out.bytes() {
+        text.push(char::from(*byte))?;
+    }
+    Ok((text, status))
+}
+
+/// How many bytes a source may have.
+const MOST_BYTES: usize = 1_048_576;
+
+/// So many pieces between front and end, and blanks up to the greatest length.
+fn longest(
+    alloc: Global,
+    front: &str,
+    piece: &str,
+    count: usize,
+    end: &str,
+) -> Result<String, AllocError> {
+    let mut source = repeated(alloc, &(front, piece, "", "", end), count)?;
+    let blanks = MOST_BYTES.saturating_sub(source.len());
+    for _ in 0..blanks {
+        source.push_str(" ")?;
+    }
+    Ok(source)
+}
+
+/// A source of the greatest length reads and types in good time: one long flat function, and the deepest brackets again and
+/// again.
+#[test]
+fn longest_sources(rt: HostRuntime) -> Result<(), Fail> {
+    let alloc = rt.alloc();
+    let flat = longest(
+        alloc,
+        "void main(int abcdefgh) {\n",
+        "abcdefgh = 1234567;\n",
+        52_427,
+        "}\n",
+    )?;
+    let brackets = ("x = ", "(     ", "0", ")     ", ";\n");
+    let deepest = repeated(alloc, &brackets, 196)?;
+    let deep = longest(alloc, "void main(int x) {\n", deepest.as_str(), 444, "}\n")?;
+    for source in [flat, deep] {
+        assert_eq!(rt; source.len(), MOST_BYTES);
+        let (text, status) = checked(alloc, source.as_str())?;
+        assert_eq!(rt; text.as_str(), "source: not built\n");
+        assert_eq!(rt; status, 3);
+    }
+    Ok(())
+}
+
+/// Each source of a table has its line, and status 3.
+fn hold(rt: &impl Abort, alloc: Global, table: &[(&str, &str)]) -> Result<(), Fail> {
+    for (source, line) in table {
+        let (mut text, status) = checked(alloc, source)?;
+        let end = text.pop();
+        assert_eq!(rt; text.as_str(), *line, "for {source}");
+        assert_eq!(rt; end, Some('\n'), "for {source}");
+        assert_eq!(rt; status, 3, "for {source}");
+    }
+    Ok(())
+}
+
+fn repeated(alloc: Global, pieces: &Repeated<'_>, count: usize) -> Result<String, AllocError> {
+    let (front, piece, middle, other, end) = *pieces;
+    let mut source = String::from_str(alloc, front)?;
+    for _ in 0..count {
+        source.push_str(piece)?;
+    }
+    source.push_str(middle)?;
+    for _ in 0..count {
+        source.push_str(other)?;
+    }
+    source.push_str(end)?;
+    Ok(source)
+}
+
+#[test]
+fn the_lock_types(rt: HostRuntime) -> Result<(), Fail> {
+    let (text, status) = checked(rt.alloc(), LOCK)?;
+    assert_eq!(rt; text.as_str(), "source: not built\n");
+    assert_eq!(rt; status, 3);
+    Ok(())
+}
+
+#[test]
+fn depths(rt: HostRuntime) -> Result<(), Fail> {
+    for (pieces, most) in DEEP {
+        for (count, line, answer) in [
+            (*most, "source: not built\n", 3),
+            (most.saturating_add(1), "limit: Depth 200\n", 5),
+        ] {
+            let source = repeated(rt.alloc(), pieces, count)?;
+            let (text, status) = checked(rt.alloc(), source.as_str())?;
+            assert_eq!(rt; text.as_str(), line, "for {pieces:?}");
+            assert_eq!(rt; status, answer, "for {pieces:?}");
+        }
+    }
+    Ok(())
+}
+
+/// A source of as many tokens as there may be reads, and one of a token more is refused.
+#[test]
+fn counts_of_tokens(rt: HostRuntime) -> Result<(), Fail> {
+    for (count, line, answer) in [
+        (262_138, "source: not built\n", 3),
+        (262_139, "limit: Tokens 262144\n", 5),
+    ] {
+        let source = repeated(rt.alloc(), &("void main() {", ";", "", "", "}"), count)?;
+        let (text, status) = checked(rt.alloc(), source.as_str())?;
+        assert_eq!(rt; text.as_str(), line);
+        assert_eq!(rt; status, answer);
+    }
+    Ok(())
+}
+
+#[test]
+fn structs(rt: HostRuntime) -> Result<(), Fail> {
+    hold(&rt, rt.alloc(), STRUCTS)
+}
+
+#[test]
+fn functions(rt: HostRuntime) -> Result<(), Fail> {
+    hold(&rt, rt.alloc(), FUNCTIONS)
+}
+
+#[test]
+fn declarations(rt: HostRuntime) -> Result<(), Fail> {
+    hold(&rt, rt.alloc(), DECLARATIONS)
+}
+
+#[test]
+fn assignments(rt: HostRuntime) -> Result<(), Fail> {
+    hold(&rt, rt.alloc(), ASSIGNMENTS)
+}
+
+#[test]
+fn calls(rt: HostRuntime) -> Result<(), Fail> {
+    hold(&rt, rt.alloc(), CALLS)
+}
+
+#[test]
+fn branches(rt: HostRuntime) -> Result<(), Fail> {
+    hold(&rt, rt.alloc(), BRANCHES)
+}
+
+#[test]
+fn annotations(rt: HostRuntime) -> Result<(), Fail> {
+    hold(&rt, rt.alloc(), ANNOTATIONS)
+}
+
+#[test]
+fn ghosts(rt: HostRuntime) -> Result<(), Fail> {
+    hold(&rt, rt.alloc(), GHOSTS)
+}
+
+#[test]
+fn expressions(rt: HostRuntime) -> Result<(), Fail> {
+    hold(&rt, rt.alloc(), EXPRESSIONS)
+}
+
+#[test]
+fn specs(rt: HostRuntime) -> Result<(), Fail> {
+    hold(&rt, rt.alloc(), SPECS)
+}
+
+#[test]
+fn tokens(rt: HostRuntime) -> Result<(), Fail> {
+    hold(&rt, rt.alloc(), TOKENS)
+}

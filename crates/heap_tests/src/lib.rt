@@ -1,0 +1,14 @@
+//! Tests of heaps, of what threads own and what steps leave, and of the values of annotations, apart from the crates that they
+//! test: a crate with tests is proved twice.
+#![tactic(auto)]
+
+#[cfg(test)]
+mod evaluation;
+#[cfg(test)]
+mod heaps;
+#[cfg(test)]
+mod holding;
+#[cfg(test)]
+mod owning;
+#[cfg(test)]
+mod touching;

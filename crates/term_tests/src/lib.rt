@@ -1,0 +1,15 @@
+//! Tests of terms, certificates and conditions, apart from the crates that they test: a crate with tests is proved twice.
+#![tactic(auto)]
+
+#[cfg(test)]
+mod bank;
+#[cfg(test)]
+mod certificates;
+#[cfg(test)]
+mod conditions;
+#[cfg(test)]
+mod literals;
+#[cfg(test)]
+mod pool;
+#[cfg(test)]
+mod sorts;

@@ -1,0 +1,31 @@
+//! Terms that are read as numbers.
+
+use std::alloc::{AllocError, Global};
+use term_bank::bank::Bank;
+use term_eval::literal::literal_value;
+use terms::term::{Args, Kind, Term};
+
+/// The number that a term without arguments is, as the only one of a bank.
+fn value_of(alloc: Global, kind: Kind, index: i128) -> Result<Option<i128>, AllocError> {
+    let args = Args::new(alloc, &[])?;
+    let node = Term { kind, index, args };
+    let mut bank = Bank::new(alloc);
+    match bank.intern(&node) {
+        Ok(id) => Ok(literal_value(&bank, id)),
+        Err(_) => Err(AllocError),
+    }
+}
+
+#[test]
+fn numbers_are_read(rt: HostRuntime) -> Result<(), AllocError> {
+    let cases = [
+        (Kind::Int, 5, Some(5)),
+        (Kind::Int, -7, Some(-7)),
+        (Kind::Ci, 5, None),
+        (Kind::True, 0, None),
+    ];
+    for (kind, index, wanted) in cases {
+        assert_eq!(rt; value_of(rt.alloc(), kind, index)?, wanted);
+    }
+    Ok(())
+}
