@@ -10,6 +10,7 @@ ghost use Rattle.statement_reader.specs.Rows.{as_block};
 ghost use Rattle.statement_reader.specs.Views as views;
 ghost use Rattle.statement_reader.specs.Views.{braces, body};
 
+use crate::together::together;
 use c_syntax::expressions::{Assignment, Expr};
 use c_syntax::statements::{Invariant, Stmt};
 use c_syntax::token::Span;
@@ -107,7 +108,7 @@ pub fn branch_of<'a>(
     match second {
         None => Ok(Stmt::If(span, condition, held)),
         Some(second) => {
-            let behind = boxed(alloc, second)?;
+            let (condition, behind) = together(condition, boxed(alloc, second))?;
             Ok(Stmt::IfElse(span, condition, held, behind))
         }
     }

@@ -7,3 +7,4 @@ pub mod kinds;
 pub mod loops;
 pub mod simple;
 pub mod statements;
+pub mod together;

@@ -25,6 +25,7 @@ use expr_reader::tokens::{
     is_sign, next_is, next_is_key, next_is_name, next_is_number, take, take_key,
 };
 use sides::assignments::assigned;
+use sides::ends::ended;
 use std::alloc::Global;
 
 /// What stands behind the body of a `do`.
@@ -36,13 +37,14 @@ pub fn do_end<'a>(alloc: Global, room: u32, tokens: &'a [Token<'a>]) -> Reading<
 {
     let word = take_key(Keyword::While, tokens)?;
     let condition = inside(alloc, room, word.rest)?;
-    let end = take(Sign::Semicolon, condition.rest)?;
+    let end = ended(Sign::Semicolon, condition)?;
+    let (condition, _) = end.value;
     Ok(Parsed {
         value: DoEnd {
             span: word.value,
-            condition: condition.value,
+            condition,
         },
-        height: condition.height,
+        height: end.height,
         rest: end.rest,
     })
 }

@@ -12,6 +12,7 @@ ghost use Rattle.expr_reader.specs.Reading.{Gives, lexemes, part, rule_at};
 ghost use Rattle.statement_reader.specs.Rows as rows;
 ghost use Rattle.statement_reader.specs.Rows.{at_span};
 
+use crate::together::together;
 use annot_syntax::simple::first_place;
 use c_syntax::expressions::{Assignment, Call, Expr, Identifier, Right};
 use c_syntax::statements::Stmt;
@@ -21,6 +22,7 @@ use expr_reader::tokens::{next_is, take, take_key, take_name};
 use expr_reader::types::ctype;
 use sides::assignments::{Behind, assignment_behind};
 use sides::calls::{Arguments, begins_code, call_behind, code, ghost_arguments, list_or_none};
+use sides::ends::ended;
 use sides::places::{name_place, other_place};
 use sides::rights::rhs;
 use std::alloc::Global;
@@ -89,11 +91,12 @@ pub fn declaration<'a>(alloc: Global, room: u32, tokens: &'a [Token<'a>]) -> Rea
     let ty = ctype(alloc, room, tokens)?;
     let name = take_name(alloc, 1, ty.rest)?;
     let value = maybe_value(alloc, room, name.rest)?;
-    let end = take(Sign::Semicolon, value.rest)?;
+    let end = ended(Sign::Semicolon, value)?;
     let (span, declared) = ty.value;
+    let (value, _) = end.value;
     Ok(Parsed {
-        value: Stmt::Declare(span, declared, name.value, value.value),
-        height: ty.height.max(name.height).max(value.height) + 1,
+        value: Stmt::Declare(span, declared, name.value, value),
+        height: ty.height.max(name.height).max(end.height) + 1,
         rest: end.rest,
     })
 }
@@ -130,10 +133,11 @@ pub fn return_statement<'a>(alloc: Global, room: u32, tokens: &'a [Token<'a>]) -
 {
     let word = take_key(Keyword::Return, tokens)?;
     let value = maybe_code(alloc, room, word.rest)?;
-    let end = take(Sign::Semicolon, value.rest)?;
+    let end = ended(Sign::Semicolon, value)?;
+    let (value, _) = end.value;
     Ok(Parsed {
-        value: Stmt::Return(word.value, value.value),
-        height: value.height + 1,
+        value: Stmt::Return(word.value, value),
+        height: end.height + 1,
         rest: end.rest,
     })
 }
@@ -147,10 +151,11 @@ pub fn inside<'a>(alloc: Global, room: u32, tokens: &'a [Token<'a>]) -> Reading<
 {
     let open = take(Sign::Open, tokens)?;
     let value = code(alloc, room, open.rest)?;
-    let close = take(Sign::Close, value.rest)?;
+    let close = ended(Sign::Close, value)?;
+    let (value, _) = close.value;
     Ok(Parsed {
-        value: value.value,
-        height: value.height,
+        value,
+        height: close.height,
         rest: close.rest,
     })
 }
@@ -164,10 +169,11 @@ pub fn free_statement<'a>(alloc: Global, room: u32, tokens: &'a [Token<'a>]) -> 
 {
     let word = take_key(Keyword::Free, tokens)?;
     let object = inside(alloc, room, word.rest)?;
-    let end = take(Sign::Semicolon, object.rest)?;
+    let end = ended(Sign::Semicolon, object)?;
+    let (object, _) = end.value;
     Ok(Parsed {
-        value: Stmt::Free(word.value, object.value),
-        height: object.height + 1,
+        value: Stmt::Free(word.value, object),
+        height: end.height + 1,
         rest: end.rest,
     })
 }
@@ -180,10 +186,11 @@ fn assign_behind<'a>(alloc: Global, room: u32, tokens: &'a [Token<'a>]) -> Readi
     ensures low { IfOk result (λ x. x.height ≤ room) }
 {
     let behind = assignment_behind(alloc, room, tokens)?;
-    let end = take(Sign::Semicolon, behind.rest)?;
+    let end = ended(Sign::Semicolon, behind)?;
+    let (value, _) = end.value;
     Ok(Parsed {
-        value: behind.value,
-        height: behind.height,
+        value,
+        height: end.height,
         rest: end.rest,
     })
 }
@@ -210,11 +217,10 @@ fn assign<'a>(alloc: Global, room: u32, left: Parsed<'a, Expr>) -> Reading<'a, S
     ensures gives { Gives stm result (rows.behind_left (exp left.entry.value) left.entry.height (part room g.assign_statement (lexemes left.entry.rest.now))) }
     ensures low { IfOk result (λ x. x.height ≤ room + 1) }
 {
-    let behind = assign_behind(alloc, room, left.rest)?;
-    let height = left.height.max(behind.height) + 1;
+    let (value, behind) = together(left.value, assign_behind(alloc, room, left.rest))?;
     Ok(Parsed {
-        value: assignment(left.value, behind.value),
-        height,
+        value: assignment(value, behind.value),
+        height: left.height.max(behind.height) + 1,
         rest: behind.rest,
     })
 }

@@ -25,6 +25,7 @@ use crate::loops::{do_end, invariants, maybe_assigned};
 use crate::simple::{
     declaration, free_statement, inside, named, other, return_statement, skip, spawn,
 };
+use crate::together::together;
 use c_syntax::statements::Stmt;
 use c_syntax::token::{Keyword, Sign, Span, Token};
 use expr_reader::expressions::list;
@@ -33,6 +34,7 @@ use expr_reader::memory::{add, boxed};
 use expr_reader::reading::{Parsed, ReadFault, Reading, fits};
 use expr_reader::tokens::{next_is, take, take_key};
 use sides::calls::code;
+use sides::ends::ended;
 use std::alloc::Global;
 
 /// As many statements as there are.
@@ -187,11 +189,11 @@ fn branch<'a>(alloc: Global, room: u32, tokens: &'a [Token<'a>]) -> Reading<'a, 
 {
     let word = take_key(Keyword::If, tokens)?;
     let condition = inside(alloc, room, word.rest)?;
-    let first = statement(alloc, room, condition.rest)?;
-    let held = boxed(alloc, first.value)?;
-    let second = maybe_else(alloc, room, first.rest)?;
+    let (tested, first) = together(condition.value, statement(alloc, room, condition.rest))?;
+    let (tested, held) = together(tested, boxed(alloc, first.value))?;
+    let (tested, second) = together(tested, maybe_else(alloc, room, first.rest))?;
     let height = condition.height.max(first.height).max(second.height) + 1;
-    let value = branch_of(alloc, word.value, condition.value, held, second.value)?;
+    let value = branch_of(alloc, word.value, tested, held, second.value)?;
     Ok(Parsed {
         value,
         height,
@@ -229,10 +231,10 @@ fn while_loop<'a>(alloc: Global, room: u32, tokens: &'a [Token<'a>]) -> Reading<
 {
     let word = take_key(Keyword::While, tokens)?;
     let condition = inside(alloc, room, word.rest)?;
-    let found = loop_body(alloc, room, condition.rest)?;
+    let (tested, found) = together(condition.value, loop_body(alloc, room, condition.rest))?;
     let height = condition.height.max(found.height) + 1;
     Ok(Parsed {
-        value: while_of(word.value, condition.value, found.value),
+        value: while_of(word.value, tested, found.value),
         height,
         rest: found.rest,
     })
@@ -266,14 +268,15 @@ fn for_end<'a>(alloc: Global, room: u32, tokens: &'a [Token<'a>]) -> Reading<'a,
     ensures low { IfOk result (λ x. x.height ≤ room) }
 {
     let change = maybe_assigned(alloc, room, tokens)?;
-    let close = take(Sign::Close, change.rest)?;
-    let found = loop_body(alloc, room, close.rest)?;
+    let close = ended(Sign::Close, change)?;
+    let (change, _) = close.value;
+    let (change, found) = together(change, loop_body(alloc, room, close.rest))?;
     Ok(Parsed {
         value: ForEnd {
-            change: change.value,
+            change,
             body: found.value,
         },
-        height: change.height.max(found.height),
+        height: close.height.max(found.height),
         rest: found.rest,
     })
 }
@@ -287,14 +290,15 @@ fn for_test<'a>(alloc: Global, room: u32, tokens: &'a [Token<'a>]) -> Reading<'a
     ensures low { IfOk result (λ x. x.height ≤ room) }
 {
     let condition = code(alloc, room, tokens)?;
-    let sign = take(Sign::Semicolon, condition.rest)?;
-    let behind = for_end(alloc, room, sign.rest)?;
+    let sign = ended(Sign::Semicolon, condition)?;
+    let (condition, _) = sign.value;
+    let (condition, behind) = together(condition, for_end(alloc, room, sign.rest))?;
     Ok(Parsed {
         value: ForTest {
-            condition: condition.value,
+            condition,
             behind: behind.value,
         },
-        height: condition.height.max(behind.height),
+        height: sign.height.max(behind.height),
         rest: behind.rest,
     })
 }
@@ -309,14 +313,15 @@ fn for_behind<'a>(alloc: Global, room: u32, tokens: &'a [Token<'a>]) -> Reading<
 {
     let open = take(Sign::Open, tokens)?;
     let first = maybe_assigned(alloc, room, open.rest)?;
-    let sign = take(Sign::Semicolon, first.rest)?;
-    let behind = for_test(alloc, room, sign.rest)?;
+    let sign = ended(Sign::Semicolon, first)?;
+    let (first, _) = sign.value;
+    let (first, behind) = together(first, for_test(alloc, room, sign.rest))?;
     Ok(Parsed {
         value: ForBehind {
-            first: first.value,
+            first,
             behind: behind.value,
         },
-        height: first.height.max(behind.height),
+        height: sign.height.max(behind.height),
         rest: behind.rest,
     })
 }
@@ -353,11 +358,12 @@ fn unwrapping<'a>(
 {
     let word = take_key(Keyword::Unwrapping, tokens)?;
     let object = code(alloc, room, word.rest)?;
-    let close = take(Sign::Close, object.rest)?;
-    let found = block_behind(alloc, room, close.rest)?;
+    let close = ended(Sign::Close, object)?;
+    let (object, _) = close.value;
+    let (object, found) = together(object, block_behind(alloc, room, close.rest))?;
     Ok(Parsed {
-        value: unwrapping_of(span, object.value, found.value),
-        height: object.height.max(found.height),
+        value: unwrapping_of(span, object, found.value),
+        height: close.height.max(found.height),
         rest: found.rest,
     })
 }
