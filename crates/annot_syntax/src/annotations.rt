@@ -11,7 +11,7 @@ use c_syntax::expressions::Expr;
 use c_syntax::ghosts::GhostStmt;
 use c_syntax::token::{Keyword, Sign, Token};
 use expr_reader::reading::{Parsed, ReadFault, Reading};
-use expr_reader::tokens::{take, take_key};
+use expr_reader::tokens::take_key;
 use sides::calls::code;
 use sides::ends::ended;
 use std::alloc::Global;
@@ -25,10 +25,11 @@ pub fn assert_behind<'a>(alloc: Global, room: u32, tokens: &'a [Token<'a>]) -> R
 {
     let word = take_key(Keyword::Assert, tokens)?;
     let found = property(alloc, room, word.rest)?;
-    let end = take(Sign::Close, found.rest)?;
+    let end = ended(Sign::Close, found)?;
+    let (value, _) = end.value;
     Ok(Parsed {
-        value: found.value,
-        height: found.height,
+        value,
+        height: end.height,
         rest: end.rest,
     })
 }
@@ -60,10 +61,11 @@ pub fn wrap_behind<'a>(alloc: Global, room: u32, tokens: &'a [Token<'a>]) -> Rea
 {
     let word = take_key(Keyword::Wrap, tokens)?;
     let found = code(alloc, room, word.rest)?;
-    let end = take(Sign::Close, found.rest)?;
+    let end = ended(Sign::Close, found)?;
+    let (value, _) = end.value;
     Ok(Parsed {
-        value: found.value,
-        height: found.height,
+        value,
+        height: end.height,
         rest: end.rest,
     })
 }
@@ -77,10 +79,11 @@ pub fn unwrap_behind<'a>(alloc: Global, room: u32, tokens: &'a [Token<'a>]) -> R
 {
     let word = take_key(Keyword::Unwrap, tokens)?;
     let found = code(alloc, room, word.rest)?;
-    let end = take(Sign::Close, found.rest)?;
+    let end = ended(Sign::Close, found)?;
+    let (value, _) = end.value;
     Ok(Parsed {
-        value: found.value,
-        height: found.height,
+        value,
+        height: end.height,
         rest: end.rest,
     })
 }
@@ -94,10 +97,11 @@ pub fn invariant_behind<'a>(alloc: Global, room: u32, tokens: &'a [Token<'a>]) -
 {
     let word = take_key(Keyword::Invariant, tokens)?;
     let found = property(alloc, room, word.rest)?;
-    let end = take(Sign::Close, found.rest)?;
+    let end = ended(Sign::Close, found)?;
+    let (value, _) = end.value;
     Ok(Parsed {
-        value: found.value,
-        height: found.height,
+        value,
+        height: end.height,
         rest: end.rest,
     })
 }

@@ -74,6 +74,23 @@ fn suffixed(suffix: Suffix, arrow: Span, left: Box<Expr>) -> Expr
     }
 }
 
+/// Goes on with an arrow, where what stands in front is boxed.
+fn behind_boxed<'a>(alloc: Global, room: u32, left: Parsed<'a, Box<Expr>>) -> Reading<'a, Expr>
+    requires room { room < 1000 }
+    requires low { left.height ≤ room }
+    ensures gives { Gives exp result (joined (exp left.entry.value.value) left.entry.height (part room g.ghost_arrow (lexemes left.entry.rest.now))) }
+    ensures low { IfOk result (λ x. x.height ≤ room + 1) }
+{
+    let behind = arrow(alloc, room, left.rest)?;
+    let (span, suffix) = behind.value;
+    let height = left.height.max(behind.height) + 1;
+    Ok(Parsed {
+        value: suffixed(suffix, span, left.value),
+        height,
+        rest: behind.rest,
+    })
+}
+
 /// Goes on with an arrow.
 fn after_arrow<'a>(alloc: Global, room: u32, left: Parsed<'a, Expr>) -> Reading<'a, Expr>
     requires room { room < 1000 }
@@ -81,15 +98,13 @@ fn after_arrow<'a>(alloc: Global, room: u32, left: Parsed<'a, Expr>) -> Reading<
     ensures gives { Gives exp result (joined (exp left.entry.value) left.entry.height (part room g.ghost_arrow (lexemes left.entry.rest.now))) }
     ensures low { IfOk result (λ x. x.height ≤ room + 1) }
 {
-    let held = boxed(alloc, left.value)?;
-    let behind = arrow(alloc, room, left.rest)?;
-    let (span, suffix) = behind.value;
-    let height = left.height.max(behind.height) + 1;
-    Ok(Parsed {
-        value: suffixed(suffix, span, held),
-        height,
-        rest: behind.rest,
-    })
+    let value = boxed(alloc, left.value)?;
+    let held = Parsed {
+        value,
+        height: left.height,
+        rest: left.rest,
+    };
+    behind_boxed(alloc, room, held)
 }
 
 /// Goes on with an arrow, where there is room for it.
@@ -99,8 +114,14 @@ fn one_arrow<'a>(alloc: Global, room: u32, left: Parsed<'a, Expr>) -> Reading<'a
     ensures gives { Gives exp result (one_link room g.ghost_arrow (exp left.entry.value) left.entry.height (lexemes left.entry.rest.now)) }
     ensures low { IfOk result (λ x. x.height ≤ room + 1) }
 {
+    let value = boxed(alloc, left.value)?;
     fits(left.height, room, left.rest)?;
-    after_arrow(alloc, room, left)
+    let held = Parsed {
+        value,
+        height: left.height,
+        rest: left.rest,
+    };
+    behind_boxed(alloc, room, held)
 }
 
 /// Whether an expression ends with `->\owns`.
@@ -136,7 +157,9 @@ fn arrows<'a>(alloc: Global, room: u32, left: Parsed<'a, Expr>) -> Reading<'a, E
         found = one_arrow(alloc, room, found)?;
     }
     if goes_on(&found.value, found.rest) {
-        return Err(ReadFault::TooDeep(found.rest));
+        let rest = found.rest;
+        drop(found);
+        return Err(ReadFault::TooDeep(rest));
     }
     Ok(found)
 }

@@ -1,6 +1,6 @@
 //! Right sides in ghost code, and changes of owned sets.
 
-ghost use Rattle.std.specs.Prelude.{◌≡◌, ◌≤◌, ◌<◌, ◌+◌, IfOk};
+ghost use Rattle.std.specs.Prelude.{◌≡◌, ◌≤◌, ◌<◌, ◌+◌, Ok, Err, IfOk, IfErr};
 ghost use Rattle.std.specs.Option.{option_map};
 ghost use Rattle.ebnf.specs.Reading.{reads};
 ghost use Rattle.c_syntax.specs.Grammar as g;
@@ -18,6 +18,7 @@ use expr_reader::levels::{Mode, Tier};
 use expr_reader::reading::{Parsed, ReadFault, Reading, fits};
 use expr_reader::tokens::{next_is, next_is_spec, take, take_spec};
 use sides::calls::{begins_code, code};
+use sides::ends::ended;
 use std::alloc::Global;
 
 /// A whole property.
@@ -41,10 +42,11 @@ fn claim_rule<'a>(alloc: Global, room: u32, tokens: &'a [Token<'a>]) -> Reading<
     let objects = set(alloc, room, start.rest)?;
     let comma = take(Sign::Comma, objects.rest)?;
     let claimed = property(alloc, room, comma.rest)?;
-    let end = take(Sign::Close, claimed.rest)?;
     let height = objects.height.max(claimed.height) + 1;
+    let end = ended(Sign::Close, claimed)?;
+    let (property, _) = end.value;
     Ok(Parsed {
-        value: GhostRight::MakeClaim(word.value, objects.value, claimed.value),
+        value: GhostRight::MakeClaim(word.value, objects.value, property),
         height,
         rest: end.rest,
     })
@@ -125,6 +127,25 @@ pub fn semicolon_or_none<'a>(room: u32, tokens: &'a [Token<'a>]) -> Reading<'a, 
         value: Some(sign.value),
         height: 0,
         rest: sign.rest,
+    })
+}
+
+/// A value that was read, with the `;` that may stand behind it. The value goes into this call, so a caller holds no tree
+/// where the `;` can't be read.
+pub fn before_semicolon<'a, T: Drop>(
+    room: u32,
+    found: Parsed<'a, T>,
+) -> Reading<'a, (T, Option<Span>)>
+    ensures value { IfOk result (λ x. x.value.0 ≡ found.entry.value) }
+    ensures height { IfOk result (λ x. x.height ≡ found.entry.height) }
+    ensures ok { IfOk result (λ x. part room g.semicolon_or_none (lexemes found.entry.rest.now) ≡ Ok (x.value.1, 0, lexemes x.rest.now)) }
+    ensures err { IfErr result (λ e. Gives (λ x. x) (Err e) (part room g.semicolon_or_none (lexemes found.entry.rest.now))) }
+{
+    let end = semicolon_or_none(room, found.rest)?;
+    Ok(Parsed {
+        value: (found.value, end.value),
+        height: found.height,
+        rest: end.rest,
     })
 }
 

@@ -23,6 +23,7 @@ use expr_reader::tokens::{
     next_is, next_is_key, next_is_name, next_is_number, next_is_spec, take, take_key,
 };
 use sides::calls::code;
+use sides::ends::ended;
 use std::alloc::Global;
 
 /// Whether the type of a ghost variable comes next.
@@ -68,10 +69,11 @@ fn in_brackets<'a>(alloc: Global, room: u32, tokens: &'a [Token<'a>]) -> Reading
 {
     let start = take(Sign::Open, tokens)?;
     let found = code(alloc, room, start.rest)?;
-    let end = take(Sign::Close, found.rest)?;
+    let end = ended(Sign::Close, found)?;
+    let (value, _) = end.value;
     Ok(Parsed {
-        value: found.value,
-        height: found.height,
+        value,
+        height: end.height,
         rest: end.rest,
     })
 }
@@ -153,13 +155,14 @@ fn if_rule<'a>(alloc: Global, room: u32, tokens: &'a [Token<'a>]) -> Reading<'a,
 {
     let word = take_key(Keyword::If, tokens)?;
     let condition = in_brackets(alloc, room, word.rest)?;
+    let test = boxed(alloc, condition.value)?;
     let then = ghost_body(alloc, room, condition.rest)?;
     let held = boxed(alloc, then.value)?;
     let other = else_or_none(alloc, room, then.rest)?;
     let end = semicolon_or_none(room, other.rest)?;
     let height = condition.height.max(then.height).max(other.height) + 1;
     Ok(Parsed {
-        value: if_of(word.value, condition.value, held, other.value),
+        value: if_of(word.value, Box::into_inner(test), held, other.value),
         height,
         rest: end.rest,
     })

@@ -9,15 +9,17 @@ ghost use Rattle.annot_syntax.specs.Rows as rows;
 ghost use Rattle.annot_syntax.specs.Views as views;
 
 use crate::ghost_places::{ghost_name, ghost_other, is_owns};
-use crate::ghost_rights::{ghost_rhs, owns_change, semicolon_or_none};
+use crate::ghost_rights::{before_semicolon, ghost_rhs, owns_change, semicolon_or_none};
 use crate::sets::set;
 use c_syntax::expressions::Expr;
 use c_syntax::ghosts::{GhostRight, GhostStmt, OwnsChange};
 use c_syntax::token::{Keyword, Sign, Span, SpecWord, Token};
+use expr_reader::memory::boxed;
 use expr_reader::reading::{Parsed, ReadFault, Reading, fits};
 use expr_reader::tokens::{next_is, next_is_key, take, take_key, take_name, take_spec};
 use expr_reader::types::gtype;
 use sides::calls::code;
+use sides::ends::ended;
 use std::alloc::Global;
 
 /// The place of an expression's first token.
@@ -112,11 +114,12 @@ pub fn declared<'a>(alloc: Global, room: u32, tokens: &'a [Token<'a>]) -> Readin
     let typed = gtype(alloc, room, tokens)?;
     let name = take_name(alloc, 1, typed.rest)?;
     let first = first_value(alloc, room, name.rest)?;
-    let end = semicolon_or_none(room, first.rest)?;
-    let (span, ty) = typed.value;
     let height = typed.height.max(name.height).max(first.height) + 1;
+    let end = before_semicolon(room, first)?;
+    let (span, ty) = typed.value;
+    let (value, _) = end.value;
     Ok(Parsed {
-        value: GhostStmt::Declare(span, ty, name.value, first.value),
+        value: GhostStmt::Declare(span, ty, name.value, value),
         height,
         rest: end.rest,
     })
@@ -134,11 +137,11 @@ fn owns_behind<'a>(
     ensures low { IfOk result (λ x. x.height ≤ room) }
 {
     let change = owns_change(alloc, room, tokens)?;
-    let end = semicolon_or_none(room, change.rest)?;
-    let (span, effect) = change.value;
+    let end = before_semicolon(room, change)?;
+    let (value, _) = end.value;
     Ok(Parsed {
-        value: (span, effect),
-        height: change.height,
+        value,
+        height: end.height,
         rest: end.rest,
     })
 }
@@ -156,10 +159,11 @@ fn set_behind<'a>(
 {
     let sign = take(Sign::Assign, tokens)?;
     let right = ghost_rhs(alloc, room, sign.rest)?;
-    let end = semicolon_or_none(room, right.rest)?;
+    let end = before_semicolon(room, right)?;
+    let (value, _) = end.value;
     Ok(Parsed {
-        value: (sign.value, right.value),
-        height: right.height,
+        value: (sign.value, value),
+        height: end.height,
         rest: end.rest,
     })
 }
@@ -171,12 +175,13 @@ fn change_owns<'a>(alloc: Global, room: u32, left: Parsed<'a, Expr>) -> Reading<
     ensures gives { Gives ghost_of result (rows.behind room g.owns_set (exp left.entry.value) left.entry.height (lexemes left.entry.rest.now)) }
     ensures low { IfOk result (λ x. x.height ≤ room + 1) }
 {
-    let found = owns_behind(alloc, room, left.rest)?;
     let place = first_place(&left.value);
+    let held = boxed(alloc, left.value)?;
+    let found = owns_behind(alloc, room, left.rest)?;
     let (span, effect) = found.value;
     let height = left.height.max(found.height) + 1;
     Ok(Parsed {
-        value: GhostStmt::Owns(place, left.value, span, effect),
+        value: GhostStmt::Owns(place, Box::into_inner(held), span, effect),
         height,
         rest: found.rest,
     })
@@ -189,12 +194,13 @@ fn set_to<'a>(alloc: Global, room: u32, left: Parsed<'a, Expr>) -> Reading<'a, G
     ensures gives { Gives ghost_of result (rows.behind room g.ghost_set (exp left.entry.value) left.entry.height (lexemes left.entry.rest.now)) }
     ensures low { IfOk result (λ x. x.height ≤ room + 1) }
 {
-    let found = set_behind(alloc, room, left.rest)?;
     let place = first_place(&left.value);
+    let held = boxed(alloc, left.value)?;
+    let found = set_behind(alloc, room, left.rest)?;
     let (span, right) = found.value;
     let height = left.height.max(found.height) + 1;
     Ok(Parsed {
-        value: GhostStmt::Assign(place, left.value, span, right),
+        value: GhostStmt::Assign(place, Box::into_inner(held), span, right),
         height,
         rest: found.rest,
     })
@@ -271,10 +277,11 @@ pub fn destroyed<'a>(alloc: Global, room: u32, tokens: &'a [Token<'a>]) -> Readi
     let word = take_spec(SpecWord::DestroyClaim, tokens)?;
     let start = take(Sign::Open, word.rest)?;
     let claim = code(alloc, room, start.rest)?;
+    let held = boxed(alloc, claim.value)?;
     let all = destroyed_set(alloc, room, claim.rest)?;
     let height = claim.height.max(all.height) + 1;
     Ok(Parsed {
-        value: GhostStmt::DestroyClaim(word.value, claim.value, all.value),
+        value: GhostStmt::DestroyClaim(word.value, Box::into_inner(held), all.value),
         height,
         rest: all.rest,
     })
@@ -356,11 +363,12 @@ pub fn wrapped<'a>(alloc: Global, room: u32, tokens: &'a [Token<'a>]) -> Reading
 {
     let start = take(Sign::Annotation, tokens)?;
     let found = wrap_or_unwrap(alloc, room, start.rest)?;
-    let end = take(Sign::Close, found.rest)?;
-    let last = semicolon_or_none(room, end.rest)?;
+    let end = ended(Sign::Close, found)?;
+    let last = before_semicolon(room, end)?;
+    let ((object, _), _) = last.value;
     Ok(Parsed {
-        value: placed(start.value, found.value),
-        height: found.height + 1,
+        value: placed(start.value, object),
+        height: last.height + 1,
         rest: last.rest,
     })
 }

@@ -168,7 +168,9 @@ pub fn arrows<'a>(alloc: Global, mode: Mode, room: u32, left: Parsed<'a, Expr>) 
         found = one_arrow(alloc, mode, room, found)?;
     }
     if next_is(Sign::Arrow, found.rest) {
-        return Err(ReadFault::TooDeep(found.rest));
+        let rest = found.rest;
+        drop(found);
+        return Err(ReadFault::TooDeep(rest));
     }
     Ok(found)
 }
@@ -253,5 +255,7 @@ pub fn climb<'a>(alloc: Global, room: u32, left: Parsed<'a, Expr>) -> Reading<'a
         }
         found = climb_step(alloc, room, found)?;
     }
-    Err(ReadFault::Unexpected(found.rest))
+    let rest = found.rest;
+    drop(found);
+    Err(ReadFault::Unexpected(rest))
 }

@@ -96,7 +96,9 @@ fn links<'a>(
         found = one_link(alloc, mode, tier, room, found)?;
     }
     if is_link(mode, tier, found.rest) {
-        return Err(ReadFault::TooDeep(found.rest));
+        let rest = found.rest;
+        drop(found);
+        return Err(ReadFault::TooDeep(rest));
     }
     Ok(found)
 }
@@ -732,7 +734,9 @@ fn joined_behind<'a>(
         found = one_joint(alloc, joint, room, found)?;
     }
     if next_joins(joint, found.rest) {
-        return Err(ReadFault::TooDeep(found.rest));
+        let rest = found.rest;
+        drop(found);
+        return Err(ReadFault::TooDeep(rest));
     }
     Ok(found)
 }

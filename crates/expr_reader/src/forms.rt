@@ -20,14 +20,14 @@ use c_syntax::token::{Span, SpecWord, Token, TokenKind};
 use c_syntax::tree::{Constant, Quantifier, SpecFunction};
 
 /// A word of two arguments.
-#[derive(Clone, Copy, Debug, PartialEq, Eq)]
+#[derive(Clone, Copy)]
 pub enum Pair {
     ClaimsObject,
     Claims,
 }
 
 /// What a word begins.
-#[derive(Clone, Copy, Debug, PartialEq, Eq)]
+#[derive(Clone, Copy)]
 pub enum Form {
     Constant(Constant),
     Function(SpecFunction),

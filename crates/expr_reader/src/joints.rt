@@ -14,7 +14,7 @@ use c_syntax::token::{Sign, SpecWord, Token};
 use c_syntax::tree::Quantifier;
 
 /// What joins the parts of such a body.
-#[derive(Clone, Copy, Debug, PartialEq, Eq)]
+#[derive(Clone, Copy)]
 pub enum Joint {
     In,
     And,

@@ -17,14 +17,14 @@ use c_syntax::token::{Sign, SpecWord, Token, TokenKind};
 use c_syntax::tree::BinaryOperator;
 
 /// Code, or an annotation.
-#[derive(Clone, Copy, Debug, PartialEq, Eq)]
+#[derive(Clone, Copy)]
 pub enum Mode {
     Code,
     Spec,
 }
 
 /// The levels from the operators that bind tightest on; code has none above `?:`.
-#[derive(Clone, Copy, Debug, PartialEq, Eq)]
+#[derive(Clone, Copy)]
 pub enum Tier {
     Prefix,
     Product,

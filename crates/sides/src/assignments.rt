@@ -16,6 +16,7 @@ use crate::places::{name_place, other_place};
 use crate::rights::rhs;
 use c_syntax::expressions::{Assignment, Change, Expr};
 use c_syntax::token::{Keyword, Sign, Span, Token};
+use expr_reader::memory::boxed;
 use expr_reader::reading::{Parsed, ReadFault, Reading, fits};
 use expr_reader::tokens::{next_is, next_is_key, next_is_name, next_is_number, take};
 use std::alloc::Global;
@@ -145,11 +146,12 @@ fn assign_to<'a>(alloc: Global, room: u32, left: Parsed<'a, Expr>) -> Reading<'a
     ensures gives { Gives assignment result (rows.assigned room (exp left.entry.value) left.entry.height (lexemes left.entry.rest.now)) }
     ensures low { IfOk result (λ x. x.height ≤ room + 1) }
 {
+    let held = boxed(alloc, left.value)?;
     let behind = assignment_behind(alloc, room, left.rest)?;
     let height = left.height.max(behind.height) + 1;
     Ok(Parsed {
         value: Assignment {
-            left: left.value,
+            left: Box::into_inner(held),
             span: behind.value.span,
             change: behind.value.change,
         },

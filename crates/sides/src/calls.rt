@@ -11,6 +11,7 @@ ghost use Rattle.expr_reader.specs.Reading.{Gives, lexemes, part, rule_at, enter
 ghost use Rattle.sides.specs.Rows as rows;
 ghost use Rattle.sides.specs.Views as views;
 
+use crate::ends::ended;
 use c_syntax::expressions::Expr;
 use c_syntax::token::{Keyword, Sign, Token};
 use expr_reader::expressions::{expression, list};
@@ -77,10 +78,11 @@ fn ghost_argument_rule<'a>(alloc: Global, room: u32, tokens: &'a [Token<'a>]) ->
     let start = take(Sign::Annotation, tokens)?;
     let word = take_key(Keyword::Ghost, start.rest)?;
     let found = code(alloc, room, word.rest)?;
-    let end = take(Sign::Close, found.rest)?;
+    let end = ended(Sign::Close, found)?;
+    let (value, _) = end.value;
     Ok(Parsed {
-        value: found.value,
-        height: found.height + 1,
+        value,
+        height: end.height + 1,
         rest: end.rest,
     })
 }

@@ -16,7 +16,7 @@ use crate::places::any_place;
 use c_syntax::expressions::{Compared, Expr, InterlockedCall};
 use c_syntax::token::{Keyword, Sign, Span, Token};
 use c_syntax::tree::Interlocked;
-use expr_reader::memory::add;
+use expr_reader::memory::{add, boxed};
 use expr_reader::reading::{Parsed, ReadFault, Reading, fits};
 use expr_reader::tokens::{next_is, next_is_key, take, take_key};
 use std::alloc::Global;
@@ -128,10 +128,11 @@ fn locked_arguments<'a>(
     let start = take(Sign::Open, tokens)?;
     let mark = take(Sign::Ampersand, start.rest)?;
     let field = any_place(alloc, room, mark.rest)?;
+    let held = boxed(alloc, field.value)?;
     let others = further(alloc, room, field.rest)?;
     let end = take(Sign::Close, others.rest)?;
     Ok(Parsed {
-        value: (field.value, others.value),
+        value: (Box::into_inner(held), others.value),
         height: field.height.max(others.height),
         rest: end.rest,
     })
@@ -235,11 +236,12 @@ fn compare<'a>(
             rest: left.rest,
         });
     }
+    let call = boxed(alloc, left.value)?;
     fits(left.height.max(1), room, left.rest)?;
     let other = comparison(alloc, room, left.rest)?;
     let height = left.height.max(other.height) + 1;
     Ok(Parsed {
-        value: (left.value, Some(other.value)),
+        value: (Box::into_inner(call), Some(other.value)),
         height,
         rest: other.rest,
     })
