@@ -7,7 +7,11 @@ mod annotation_tests;
 #[cfg(test)]
 mod annotations;
 #[cfg(test)]
+mod answers;
+#[cfg(test)]
 mod both_sides;
+#[cfg(test)]
+mod by_hand;
 #[cfg(test)]
 mod declarations;
 #[cfg(test)]
@@ -16,6 +20,14 @@ mod heights;
 mod items;
 #[cfg(test)]
 mod pieces;
+#[cfg(test)]
+mod printed;
+#[cfg(test)]
+mod printed_items;
+#[cfg(test)]
+mod printed_statements;
+#[cfg(test)]
+mod readings;
 #[cfg(test)]
 mod sources;
 #[cfg(test)]
