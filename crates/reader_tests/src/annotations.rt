@@ -1,7 +1,7 @@
 //! Tables of ghost statements, over tokens written by hand. What is read is shown by its height and the number of tokens behind it, a fault by the number of tokens from it on.
 
-use crate::by_hand::{Case, Reader, Tokens, all_hold};
 use crate::readings::counted;
+use crate::tables::{Reader, Row, Tokens, hold};
 use Form::{GhostBody, GhostName, GhostStatement, Set};
 use annot_syntax::ghost_places::ghost_name;
 use annot_syntax::ghosts::{ghost_body, ghost_statement};
@@ -62,32 +62,26 @@ const BLOCK: Tokens = &[
     Mark(Sign::Close),
 ];
 
-const OWNED_SETS: &[Case<Form>] = &[(
-    OWNED,
-    &[
-        (GhostName, 2, 0, "2 high, 4 left"),
-        (GhostStatement, 3, 0, "3 high, 1 left"),
-        (GhostStatement, 2, 0, "too deep, 6 left"),
-        (Set, 0, 4, "0 high, 1 left"),
-    ],
-)];
+const OWNED_ROWS: &[Row<Form>] = &[
+    (GhostName, 2, 0, "2 high, 4 left"),
+    (GhostStatement, 3, 0, "3 high, 1 left"),
+    (GhostStatement, 2, 0, "too deep, 6 left"),
+    (Set, 0, 4, "0 high, 1 left"),
+];
 
-const BLOCKS: &[Case<Form>] = &[(
-    BLOCK,
-    &[
-        (GhostBody, 3, 0, "3 high, 1 left"),
-        (GhostBody, 2, 0, "too deep, 7 left"),
-        (GhostBody, 0, 0, "too deep, 8 left"),
-        (GhostBody, 3, 6, "unexpected, 2 left"),
-    ],
-)];
+const BLOCK_ROWS: &[Row<Form>] = &[
+    (GhostBody, 3, 0, "3 high, 1 left"),
+    (GhostBody, 2, 0, "too deep, 7 left"),
+    (GhostBody, 0, 0, "too deep, 8 left"),
+    (GhostBody, 3, 6, "unexpected, 2 left"),
+];
 
 #[test]
 fn owned_sets(rt: HostRuntime) -> Result<(), AllocError> {
-    all_hold(&rt, rt.alloc(), OWNED_SETS)
+    hold(&rt, rt.alloc(), OWNED, OWNED_ROWS)
 }
 
 #[test]
 fn blocks(rt: HostRuntime) -> Result<(), AllocError> {
-    all_hold(&rt, rt.alloc(), BLOCKS)
+    hold(&rt, rt.alloc(), BLOCK, BLOCK_ROWS)
 }

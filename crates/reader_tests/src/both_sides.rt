@@ -1,7 +1,7 @@
 //! Tables of left and right sides, over tokens written by hand. What is read is shown by its height and the number of tokens behind it, a fault by the number of tokens from it on.
 
-use crate::by_hand::{Case, Reader, Tokens, all_hold};
 use crate::readings::counted;
+use crate::tables::{Reader, Row, Tokens, hold};
 use Form::{Allocation, Assigned, AssignmentBehind, CallBehind, NamePlace, Rhs};
 use c_syntax::token::TokenKind::{Keyword as Key, Name, Sign as Mark};
 use c_syntax::token::{Keyword, Sign, Token};
@@ -79,50 +79,42 @@ const STEP: Tokens = &[Name(b"a"), Mark(Sign::Increment), Mark(Sign::Semicolon)]
 /// The brackets of a call.
 const CALL: Tokens = &[Mark(Sign::Open), Mark(Sign::Close), Mark(Sign::Semicolon)];
 
-const NAMES_WITH_ARROWS: &[Case<Form>] = &[(
-    ARROWS,
-    &[
-        (NamePlace, 3, 0, "3 high, 1 left"),
-        (NamePlace, 2, 0, "too deep, 3 left"),
-        (NamePlace, 1, 0, "too deep, 5 left"),
-        (NamePlace, 0, 0, "too deep, 6 left"),
-    ],
-)];
-
-const MALLOCS: &[Case<Form>] = &[(
-    CAST,
-    &[
-        (Rhs, 2, 0, "2 high, 1 left"),
-        (Rhs, 1, 0, "too deep, 14 left"),
-        (Rhs, 2, 5, "2 high, 1 left"),
-        (Allocation, 2, 0, "unexpected, 14 left"),
-    ],
-)];
-
-const STEPS_AND_CALLS: &[Case<Form>] = &[
-    (
-        STEP,
-        &[
-            (Assigned, 2, 0, "2 high, 1 left"),
-            (Assigned, 1, 0, "too deep, 3 left"),
-            (AssignmentBehind, 0, 1, "0 high, 1 left"),
-            (AssignmentBehind, 0, 2, "unexpected, 1 left"),
-        ],
-    ),
-    (CALL, &[(CallBehind, 0, 0, "0 high, 1 left")]),
+const ARROWS_ROWS: &[Row<Form>] = &[
+    (NamePlace, 3, 0, "3 high, 1 left"),
+    (NamePlace, 2, 0, "too deep, 3 left"),
+    (NamePlace, 1, 0, "too deep, 5 left"),
+    (NamePlace, 0, 0, "too deep, 6 left"),
 ];
+
+const CAST_ROWS: &[Row<Form>] = &[
+    (Rhs, 2, 0, "2 high, 1 left"),
+    (Rhs, 1, 0, "too deep, 14 left"),
+    (Rhs, 2, 5, "2 high, 1 left"),
+    (Allocation, 2, 0, "unexpected, 14 left"),
+];
+
+const STEP_ROWS: &[Row<Form>] = &[
+    (Assigned, 2, 0, "2 high, 1 left"),
+    (Assigned, 1, 0, "too deep, 3 left"),
+    (AssignmentBehind, 0, 1, "0 high, 1 left"),
+    (AssignmentBehind, 0, 2, "unexpected, 1 left"),
+];
+
+const CALL_ROWS: &[Row<Form>] = &[(CallBehind, 0, 0, "0 high, 1 left")];
 
 #[test]
 fn names_with_arrows(rt: HostRuntime) -> Result<(), AllocError> {
-    all_hold(&rt, rt.alloc(), NAMES_WITH_ARROWS)
+    hold(&rt, rt.alloc(), ARROWS, ARROWS_ROWS)
 }
 
 #[test]
 fn mallocs(rt: HostRuntime) -> Result<(), AllocError> {
-    all_hold(&rt, rt.alloc(), MALLOCS)
+    hold(&rt, rt.alloc(), CAST, CAST_ROWS)
 }
 
 #[test]
 fn steps_and_calls(rt: HostRuntime) -> Result<(), AllocError> {
-    all_hold(&rt, rt.alloc(), STEPS_AND_CALLS)
+    let alloc = rt.alloc();
+    hold(&rt, alloc, STEP, STEP_ROWS)?;
+    hold(&rt, alloc, CALL, CALL_ROWS)
 }

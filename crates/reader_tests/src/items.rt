@@ -1,7 +1,7 @@
 //! Tables of contracts, parameters and structs, over tokens written by hand. What is read is shown with its height and the number of tokens behind it, a fault by the number of tokens from it on.
 
-use crate::by_hand::{Case, Reader, Tokens, all_hold, by_hand};
 use crate::readings::given;
+use crate::tables::{Reader, Row, Tokens, by_hand, hold};
 use Form::{
     AttributeList, Attributes, Clause, Clauses, GhostParameters, Member, Members, Parameters,
     StructBehind, Written, WrittenList,
@@ -96,24 +96,18 @@ const OPEN_SPAN: Tokens = &[Word(SpecWord::Span), Mark(Sign::Open), Name(b"b")];
 /// An item and a comma.
 const TRAILING_WRITTEN: Tokens = &[Name(b"a"), Mark(Sign::Comma), Mark(Sign::Close)];
 
-const WRITTEN_CASES: &[Case<Form>] = &[
-    (
-        WRITTEN,
-        &[
-            (Written, 9, 0, "1 high, 11 left: a"),
-            (Written, 2, 2, "2 high, 6 left: span b"),
-            (Written, 1, 2, "too deep, 10 left"),
-            (Written, 9, 7, "2 high, 1 left: extent c"),
-            (Written, 9, 1, "unexpected, 11 left"),
-            (WrittenList, 9, 0, "2 high, 1 left: a span b extent c"),
-        ],
-    ),
-    (OPEN_SPAN, &[(Written, 9, 0, "unexpected, 0 left")]),
-    (
-        TRAILING_WRITTEN,
-        &[(WrittenList, 9, 0, "unexpected, 1 left")],
-    ),
+const WRITTEN_ROWS: &[Row<Form>] = &[
+    (Written, 9, 0, "1 high, 11 left: a"),
+    (Written, 2, 2, "2 high, 6 left: span b"),
+    (Written, 1, 2, "too deep, 10 left"),
+    (Written, 9, 7, "2 high, 1 left: extent c"),
+    (Written, 9, 1, "unexpected, 11 left"),
+    (WrittenList, 9, 0, "2 high, 1 left: a span b extent c"),
 ];
+
+const OPEN_SPAN_ROWS: &[Row<Form>] = &[(Written, 9, 0, "unexpected, 0 left")];
+
+const TRAILING_WRITTEN_ROWS: &[Row<Form>] = &[(WrittenList, 9, 0, "unexpected, 1 left")];
 
 /// Clauses.
 const CLAUSES: Tokens = &[
@@ -152,26 +146,23 @@ const CUT_CLAUSE: Tokens = &[
 /// An annotation that is no clause.
 const NO_CLAUSE: Tokens = &[Mark(Sign::Annotation), Key(Keyword::Assert), Name(b"a")];
 
-const CLAUSE_CASES: &[Case<Form>] = &[
+const CLAUSES_ROWS: &[Row<Form>] = &[
+    (Clause, 2, 0, "2 high, 15 left: Requires a"),
+    (Clause, 1, 0, "too deep, 18 left"),
+    (Clause, 0, 0, "too deep, 19 left"),
     (
-        CLAUSES,
-        &[
-            (Clause, 2, 0, "2 high, 15 left: Requires a"),
-            (Clause, 1, 0, "too deep, 18 left"),
-            (Clause, 0, 0, "too deep, 19 left"),
-            (
-                Clauses,
-                2,
-                0,
-                "2 high, 1 left: Requires a Ensures b Maintains c Writes d e",
-            ),
-            (Clauses, 1, 0, "too deep, 19 left"),
-            (Clauses, 0, 18, "0 high, 1 left:"),
-        ],
+        Clauses,
+        2,
+        0,
+        "2 high, 1 left: Requires a Ensures b Maintains c Writes d e",
     ),
-    (CUT_CLAUSE, &[(Clauses, 9, 0, "unexpected, 0 left")]),
-    (NO_CLAUSE, &[(Clause, 9, 0, "unexpected, 2 left")]),
+    (Clauses, 1, 0, "too deep, 19 left"),
+    (Clauses, 0, 18, "0 high, 1 left:"),
 ];
+
+const CUT_CLAUSE_ROWS: &[Row<Form>] = &[(Clauses, 9, 0, "unexpected, 0 left")];
+
+const NO_CLAUSE_ROWS: &[Row<Form>] = &[(Clause, 9, 0, "unexpected, 2 left")];
 
 /// Parameters.
 const PARAMETERS: Tokens = &[
@@ -199,22 +190,17 @@ const TRAILING_PARAMETER: Tokens = &[
     Mark(Sign::Close),
 ];
 
-const PARAMETER_CASES: &[Case<Form>] = &[
-    (
-        PARAMETERS,
-        &[
-            (Parameters, 1, 0, "1 high, 1 left: Int a to s b"),
-            (Parameters, 0, 0, "too deep, 8 left"),
-            (Parameters, 0, 7, "0 high, 1 left:"),
-        ],
-    ),
-    (NO_NAME, &[(Parameters, 9, 0, "unexpected, 0 left")]),
-    (VOID, &[(Parameters, 0, 0, "0 high, 1 left:")]),
-    (
-        TRAILING_PARAMETER,
-        &[(Parameters, 9, 0, "unexpected, 1 left")],
-    ),
+const PARAMETERS_ROWS: &[Row<Form>] = &[
+    (Parameters, 1, 0, "1 high, 1 left: Int a to s b"),
+    (Parameters, 0, 0, "too deep, 8 left"),
+    (Parameters, 0, 7, "0 high, 1 left:"),
 ];
+
+const NO_NAME_ROWS: &[Row<Form>] = &[(Parameters, 9, 0, "unexpected, 0 left")];
+
+const VOID_ROWS: &[Row<Form>] = &[(Parameters, 0, 0, "0 high, 1 left:")];
+
+const TRAILING_PARAMETER_ROWS: &[Row<Form>] = &[(Parameters, 9, 0, "unexpected, 1 left")];
 
 /// Ghost parameters.
 const GHOST_PARAMETERS: Tokens = &[
@@ -234,20 +220,13 @@ const GHOST_PARAMETERS: Tokens = &[
 /// An annotation that is no ghost parameter.
 const NO_GHOST_PARAMETER: Tokens = &[Mark(Sign::Annotation), Key(Keyword::Requires), Name(b"a")];
 
-const GHOST_PARAMETER_CASES: &[Case<Form>] = &[
-    (
-        GHOST_PARAMETERS,
-        &[
-            (GhostParameters, 1, 0, "1 high, 1 left: claim c Int n"),
-            (GhostParameters, 0, 0, "too deep, 11 left"),
-            (GhostParameters, 0, 10, "0 high, 1 left:"),
-        ],
-    ),
-    (
-        NO_GHOST_PARAMETER,
-        &[(GhostParameters, 9, 0, "unexpected, 2 left")],
-    ),
+const GHOST_PARAMETERS_ROWS: &[Row<Form>] = &[
+    (GhostParameters, 1, 0, "1 high, 1 left: claim c Int n"),
+    (GhostParameters, 0, 0, "too deep, 11 left"),
+    (GhostParameters, 0, 10, "0 high, 1 left:"),
 ];
+
+const NO_GHOST_PARAMETER_ROWS: &[Row<Form>] = &[(GhostParameters, 9, 0, "unexpected, 2 left")];
 
 /// Lists of attributes.
 const ATTRIBUTES: Tokens = &[
@@ -265,22 +244,18 @@ const ATTRIBUTES: Tokens = &[
 /// A list with no attribute.
 const NO_ATTRIBUTE: Tokens = &[Mark(Sign::Annotation), Mark(Sign::Close)];
 
-const ATTRIBUTE_CASES: &[Case<Form>] = &[
+const ATTRIBUTES_ROWS: &[Row<Form>] = &[
+    (AttributeList, 0, 0, "0 high, 4 left: Claimable DynamicOwns"),
     (
-        ATTRIBUTES,
-        &[
-            (AttributeList, 0, 0, "0 high, 4 left: Claimable DynamicOwns"),
-            (
-                Attributes,
-                0,
-                0,
-                "0 high, 1 left: Claimable DynamicOwns VolatileOwns",
-            ),
-            (Attributes, 0, 8, "unexpected, 1 left"),
-        ],
+        Attributes,
+        0,
+        0,
+        "0 high, 1 left: Claimable DynamicOwns VolatileOwns",
     ),
-    (NO_ATTRIBUTE, &[(Attributes, 0, 0, "unexpected, 1 left")]),
+    (Attributes, 0, 8, "unexpected, 1 left"),
 ];
+
+const NO_ATTRIBUTE_ROWS: &[Row<Form>] = &[(Attributes, 0, 0, "unexpected, 1 left")];
 
 /// A struct from its brace on.
 const MEMBERS: Tokens = &[
@@ -324,35 +299,32 @@ const NO_MEMBER: Tokens = &[
 /// A struct that does not end.
 const UNENDED: Tokens = &[Mark(Sign::BraceOpen), Mark(Sign::BraceClose)];
 
-const MEMBER_CASES: &[Case<Form>] = &[
+const MEMBERS_ROWS: &[Row<Form>] = &[
+    (Member, 1, 1, "1 high, 24 left: Int a"),
+    (Member, 0, 1, "too deep, 27 left"),
+    (Member, 1, 4, "1 high, 18 left: volatile to s p"),
+    (Member, 1, 10, "1 high, 11 left: ghost volatile object o"),
+    (Member, 1, 17, "1 high, 6 left: ghost Int g"),
+    (Member, 2, 22, "2 high, 2 left: invariant a"),
+    (Member, 1, 22, "too deep, 5 left"),
+    (Member, 9, 26, "unexpected, 2 left"),
     (
-        MEMBERS,
-        &[
-            (Member, 1, 1, "1 high, 24 left: Int a"),
-            (Member, 0, 1, "too deep, 27 left"),
-            (Member, 1, 4, "1 high, 18 left: volatile to s p"),
-            (Member, 1, 10, "1 high, 11 left: ghost volatile object o"),
-            (Member, 1, 17, "1 high, 6 left: ghost Int g"),
-            (Member, 2, 22, "2 high, 2 left: invariant a"),
-            (Member, 1, 22, "too deep, 5 left"),
-            (Member, 9, 26, "unexpected, 2 left"),
-            (
-                Members,
-                2,
-                1,
-                "2 high, 2 left: Int a volatile to s p ghost volatile object o ghost Int g invariant a",
-            ),
-            (
-                StructBehind,
-                2,
-                0,
-                "2 high, 0 left: Int a volatile to s p ghost volatile object o ghost Int g invariant a",
-            ),
-        ],
+        Members,
+        2,
+        1,
+        "2 high, 2 left: Int a volatile to s p ghost volatile object o ghost Int g invariant a",
     ),
-    (NO_MEMBER, &[(StructBehind, 0, 0, "0 high, 0 left:")]),
-    (UNENDED, &[(StructBehind, 0, 0, "unexpected, 0 left")]),
+    (
+        StructBehind,
+        2,
+        0,
+        "2 high, 0 left: Int a volatile to s p ghost volatile object o ghost Int g invariant a",
+    ),
 ];
+
+const NO_MEMBER_ROWS: &[Row<Form>] = &[(StructBehind, 0, 0, "0 high, 0 left:")];
+
+const UNENDED_ROWS: &[Row<Form>] = &[(StructBehind, 0, 0, "unexpected, 0 left")];
 
 /// Whether a property begins with this token.
 fn begins(alloc: Global, first: TokenKind<'static>) -> Result<bool, AllocError> {
@@ -373,30 +345,47 @@ fn a_property_begins_with_an_operand_or_an_operator_in_front(
 
 #[test]
 fn written_items_are_objects_spans_and_extents(rt: HostRuntime) -> Result<(), AllocError> {
-    all_hold(&rt, rt.alloc(), WRITTEN_CASES)
+    let alloc = rt.alloc();
+    hold(&rt, alloc, WRITTEN, WRITTEN_ROWS)?;
+    hold(&rt, alloc, OPEN_SPAN, OPEN_SPAN_ROWS)?;
+    hold(&rt, alloc, TRAILING_WRITTEN, TRAILING_WRITTEN_ROWS)
 }
 
 #[test]
 fn clauses_stand_one_behind_the_other(rt: HostRuntime) -> Result<(), AllocError> {
-    all_hold(&rt, rt.alloc(), CLAUSE_CASES)
+    let alloc = rt.alloc();
+    hold(&rt, alloc, CLAUSES, CLAUSES_ROWS)?;
+    hold(&rt, alloc, CUT_CLAUSE, CUT_CLAUSE_ROWS)?;
+    hold(&rt, alloc, NO_CLAUSE, NO_CLAUSE_ROWS)
 }
 
 #[test]
 fn parameters_have_commas_between(rt: HostRuntime) -> Result<(), AllocError> {
-    all_hold(&rt, rt.alloc(), PARAMETER_CASES)
+    let alloc = rt.alloc();
+    hold(&rt, alloc, PARAMETERS, PARAMETERS_ROWS)?;
+    hold(&rt, alloc, NO_NAME, NO_NAME_ROWS)?;
+    hold(&rt, alloc, VOID, VOID_ROWS)?;
+    hold(&rt, alloc, TRAILING_PARAMETER, TRAILING_PARAMETER_ROWS)
 }
 
 #[test]
 fn ghost_parameters_stand_in_annotations(rt: HostRuntime) -> Result<(), AllocError> {
-    all_hold(&rt, rt.alloc(), GHOST_PARAMETER_CASES)
+    let alloc = rt.alloc();
+    hold(&rt, alloc, GHOST_PARAMETERS, GHOST_PARAMETERS_ROWS)?;
+    hold(&rt, alloc, NO_GHOST_PARAMETER, NO_GHOST_PARAMETER_ROWS)
 }
 
 #[test]
 fn lists_of_attributes_become_one(rt: HostRuntime) -> Result<(), AllocError> {
-    all_hold(&rt, rt.alloc(), ATTRIBUTE_CASES)
+    let alloc = rt.alloc();
+    hold(&rt, alloc, ATTRIBUTES, ATTRIBUTES_ROWS)?;
+    hold(&rt, alloc, NO_ATTRIBUTE, NO_ATTRIBUTE_ROWS)
 }
 
 #[test]
 fn members_are_fields_and_invariants(rt: HostRuntime) -> Result<(), AllocError> {
-    all_hold(&rt, rt.alloc(), MEMBER_CASES)
+    let alloc = rt.alloc();
+    hold(&rt, alloc, MEMBERS, MEMBERS_ROWS)?;
+    hold(&rt, alloc, NO_MEMBER, NO_MEMBER_ROWS)?;
+    hold(&rt, alloc, UNENDED, UNENDED_ROWS)
 }

@@ -11,8 +11,6 @@ mod answers;
 #[cfg(test)]
 mod both_sides;
 #[cfg(test)]
-mod by_hand;
-#[cfg(test)]
 mod declarations;
 #[cfg(test)]
 mod heights;
@@ -32,3 +30,5 @@ mod readings;
 mod sources;
 #[cfg(test)]
 mod statements;
+#[cfg(test)]
+mod tables;

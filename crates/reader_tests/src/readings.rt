@@ -7,7 +7,6 @@ use c_syntax::token::Token;
 use expr_reader::reading::{ReadFault, Reading};
 use std::alloc::{AllocError, Global};
 use std::fmt::Write;
-use std::process::Abort;
 
 /// The height, and the number of tokens behind it.
 fn write_count(text: &mut String, height: u32, rest: &[Token<'_>]) -> Result<(), AllocError> {
@@ -61,43 +60,46 @@ fn write_fault(text: &mut String, fault: ReadFault<'_>) -> Result<(), AllocError
 }
 
 /// The height and the place behind the value; or the fault.
-pub fn write_height<'a, T: Drop>(
-    text: &mut String,
-    reading: Reading<'a, T>,
-) -> Result<(), AllocError> {
+pub fn height<'a, T: Drop>(alloc: Global, reading: Reading<'a, T>) -> Result<String, AllocError> {
+    let mut text = String::new(alloc);
     match reading {
-        Ok(found) => write_end(text, found.height, found.rest),
-        Err(fault) => write_fault(text, fault),
+        Ok(found) => write_end(&mut text, found.height, found.rest)?,
+        Err(fault) => write_fault(&mut text, fault)?,
     }
+    Ok(text)
 }
 
 /// The value, its height and the place behind it; or the fault.
-pub fn write_read<'a, T: Drop + Printed>(
-    text: &mut String,
+pub fn whole<'a, T: Drop + Printed>(
+    alloc: Global,
     reading: Reading<'a, T>,
-) -> Result<(), AllocError> {
+) -> Result<String, AllocError> {
+    let mut text = String::new(alloc);
     match reading {
         Ok(found) => {
-            found.value.print(text, true)?;
+            found.value.print(&mut text, true)?;
             text.push_str(" ")?;
-            write_end(text, found.height, found.rest)
+            write_end(&mut text, found.height, found.rest)?;
         }
-        Err(fault) => write_fault(text, fault),
+        Err(fault) => write_fault(&mut text, fault)?,
     }
+    Ok(text)
 }
 
 /// The height of the items, the place behind them, and the items; or the fault.
-pub fn write_listed<'a, T: Drop + Printed>(
-    text: &mut String,
+pub fn listed<'a, T: Drop + Printed>(
+    alloc: Global,
     reading: Reading<'a, T>,
-) -> Result<(), AllocError> {
+) -> Result<String, AllocError> {
+    let mut text = String::new(alloc);
     match reading {
         Ok(found) => {
-            write_end(text, found.height, found.rest)?;
-            found.value.print(text, true)
+            write_end(&mut text, found.height, found.rest)?;
+            found.value.print(&mut text, true)?;
         }
-        Err(fault) => write_fault(text, fault),
+        Err(fault) => write_fault(&mut text, fault)?,
     }
+    Ok(text)
 }
 
 /// The height of the value and the number of tokens behind it; or the fault.
@@ -125,9 +127,4 @@ pub fn given<'a, T: Drop + Printed>(
         Err(fault) => write_counted_fault(&mut text, fault)?,
     }
     Ok(text)
-}
-
-/// A row's text is the one that it wants.
-pub fn is(rt: &impl Abort, got: &str, want: &str, row: &str) {
-    assert_eq!(rt; got, want, "at {row}");
 }

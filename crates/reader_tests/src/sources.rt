@@ -1,11 +1,28 @@
 //! Tables of whole sources.
 
-use crate::readings::{is, write_listed};
+use crate::readings::listed;
+use crate::tables::{Reader, all_read, reads};
 use c_reader::program::program;
+use c_syntax::token::Token;
 use std::alloc::{AllocError, Global};
-use std::process::Abort;
 use std::test::*;
-use vcc_lexer::tokens;
+
+/// Reads a program: tells its height, the place behind it and its items; or the fault.
+struct Program;
+
+impl Reader for Program {
+    fn tell<'a>(
+        &self,
+        alloc: Global,
+        room: u32,
+        tokens: &'a [Token<'a>],
+    ) -> Result<String, AllocError> {
+        if room > 200 {
+            return Ok(String::new(alloc));
+        }
+        listed(alloc, program(alloc, room, tokens))
+    }
+}
 
 /// Structs, and what is read of them.
 const STRUCTS: &[(&str, &str)] = &[
@@ -131,66 +148,30 @@ const HIGH: &[(u32, &str, &str)] = &[
     (2, "5", "unexpected 1:1"),
 ];
 
-/// The height of the program that a short source begins with, the place behind it and its items; or the fault.
-fn read(alloc: Global, room: u32, source: &str) -> Result<String, AllocError> {
-    let mut text = String::new(alloc);
-    let source = source.as_bytes();
-    if source.len() > 1000 || room > 200 {
-        return Ok(text);
-    }
-    let Ok(list) = tokens(alloc, source) else {
-        text.push_str("no tokens")?;
-        return Ok(text);
-    };
-    write_listed(&mut text, program(alloc, room, &list))?;
-    Ok(text)
-}
-
-/// A source is read as its row says.
-fn reads(
-    rt: &impl Abort,
-    alloc: Global,
-    room: u32,
-    source: &str,
-    want: &str,
-) -> Result<(), AllocError> {
-    let got = read(alloc, room, source)?;
-    is(rt, &got, want, source);
-    Ok(())
-}
-
-/// All sources are read as their rows say.
-fn all_read(rt: &impl Abort, alloc: Global, rows: &[(&str, &str)]) -> Result<(), AllocError> {
-    for (source, want) in rows {
-        reads(rt, alloc, 200, source, want)?;
-    }
-    Ok(())
-}
-
 #[test]
 fn structs_have_attributes_and_members(rt: HostRuntime) -> Result<(), AllocError> {
-    all_read(&rt, rt.alloc(), STRUCTS)
+    all_read(&rt, rt.alloc(), &Program, STRUCTS)
 }
 
 #[test]
 fn functions_have_parameters_contracts_and_bodies(rt: HostRuntime) -> Result<(), AllocError> {
-    all_read(&rt, rt.alloc(), FUNCTIONS)
+    all_read(&rt, rt.alloc(), &Program, FUNCTIONS)
 }
 
 #[test]
 fn programs_are_items_one_behind_the_other(rt: HostRuntime) -> Result<(), AllocError> {
-    all_read(&rt, rt.alloc(), PROGRAMS)
+    all_read(&rt, rt.alloc(), &Program, PROGRAMS)
 }
 
 #[test]
 fn faults_are_where_no_program_goes_on(rt: HostRuntime) -> Result<(), AllocError> {
-    all_read(&rt, rt.alloc(), FAULTS)
+    all_read(&rt, rt.alloc(), &Program, FAULTS)
 }
 
 #[test]
 fn height_is_bounded_where_it_is_passed(rt: HostRuntime) -> Result<(), AllocError> {
     for (room, source, want) in HIGH {
-        reads(&rt, rt.alloc(), *room, source, want)?;
+        reads(&rt, rt.alloc(), &Program, *room, source, want)?;
     }
     Ok(())
 }

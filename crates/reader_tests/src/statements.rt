@@ -1,16 +1,55 @@
 //! Tables of sources: expressions, and statements.
 
-use crate::readings::{is, write_height, write_read};
+use crate::readings::{height, whole};
+use crate::tables::{Reader, all_read, reads};
+use Form::{Declaration, Expression, Free, Named, Other, Return, Spawn, Statement};
+use c_syntax::token::Token;
 use expr_reader::expressions::expression;
 use expr_reader::levels::Mode::{Code, Spec};
 use expr_reader::levels::{Mode, top};
 use statement_reader::simple::{
     declaration, free_statement, named, other, return_statement, spawn,
 };
+use statement_reader::statements::statement;
 use std::alloc::{AllocError, Global};
-use std::process::Abort;
 use std::test::*;
-use vcc_lexer::tokens;
+
+/// What is read: an expression or a statement, which is told with its height and the place behind it; or a simple statement, of
+/// which only these are told. A declaration and a spawn need room, and are read in the largest.
+#[derive(Clone, Copy)]
+enum Form {
+    Expression(Mode),
+    Statement,
+    Declaration,
+    Named,
+    Other,
+    Return,
+    Spawn,
+    Free,
+}
+
+impl Reader for Form {
+    fn tell<'a>(
+        &self,
+        alloc: Global,
+        room: u32,
+        tokens: &'a [Token<'a>],
+    ) -> Result<String, AllocError> {
+        if room > 200 {
+            return Ok(String::new(alloc));
+        }
+        match self {
+            Expression(mode) => whole(alloc, expression(alloc, *mode, top(*mode), room, tokens)),
+            Statement => whole(alloc, statement(alloc, room, tokens)),
+            Declaration => height(alloc, declaration(alloc, 200, tokens)),
+            Named => height(alloc, named(alloc, room, tokens)),
+            Other => height(alloc, other(alloc, room, tokens)),
+            Return => height(alloc, return_statement(alloc, room, tokens)),
+            Spawn => height(alloc, spawn(alloc, 200, tokens)),
+            Free => height(alloc, free_statement(alloc, room, tokens)),
+        }
+    }
+}
 
 /// Expressions of code, and what is read of them.
 const CODE: &[(&str, &str)] = &[
@@ -207,43 +246,47 @@ const HIGH_EXPRESSIONS: &[(Mode, u32, &str, &str)] = &[
 ];
 
 /// The kinds of statements, the statements, and their heights.
-const SIMPLE: &[(u8, &str, &str)] = &[
-    (0, "int x;", "2 1:7"),
-    (0, "int x = 1;", "2 1:11"),
-    (0, "long long int x;", "2 1:17"),
-    (0, "struct T *p = malloc(sizeof(struct T));", "3 1:40"),
+const SIMPLE: &[(Form, &str, &str)] = &[
+    (Declaration, "int x;", "2 1:7"),
+    (Declaration, "int x = 1;", "2 1:11"),
+    (Declaration, "long long int x;", "2 1:17"),
     (
-        0,
+        Declaration,
+        "struct T *p = malloc(sizeof(struct T));",
+        "3 1:40",
+    ),
+    (
+        Declaration,
         "struct T *p = (struct T *) malloc(sizeof(struct T));",
         "3 1:53",
     ),
-    (0, "int x = f(y);", "2 1:14"),
-    (0, "int x = f(y + 1);", "3 1:18"),
-    (0, "unsigned x", "unexpected 1:11"),
-    (0, "int = 1;", "unexpected 1:5"),
-    (0, "int x = ;", "unexpected 1:9"),
-    (1, "x = 1;", "2 1:7"),
-    (1, "x->f += y + 1;", "3 1:15"),
-    (1, "x++;", "2 1:5"),
-    (1, "f(x, y + 1);", "3 1:13"),
-    (1, "f(x _(ghost y + 1));", "4 1:21"),
-    (1, "f(x, _(ghost y));", "unexpected 1:6"),
-    (1, "f();", "2 1:5"),
-    (1, "x = InterlockedIncrement(&p->n);", "4 1:33"),
-    (1, "x", "unexpected 1:2"),
-    (1, "f(x", "unexpected 1:4"),
-    (1, "f(x,);", "unexpected 1:5"),
-    (1, "x + 1 = 2;", "unexpected 1:3"),
-    (2, "(x)->f = 1;", "4 1:12"),
-    (2, "5;", "unexpected 1:2"),
-    (3, "return;", "1 1:8"),
-    (3, "return x;", "2 1:10"),
-    (3, "return x", "unexpected 1:9"),
-    (4, "vcc_spawn(f, x);", "2 1:17"),
-    (4, "vcc_spawn(f);", "2 1:14"),
-    (4, "vcc_spawn();", "unexpected 1:11"),
-    (5, "free(p);", "2 1:9"),
-    (5, "free();", "unexpected 1:6"),
+    (Declaration, "int x = f(y);", "2 1:14"),
+    (Declaration, "int x = f(y + 1);", "3 1:18"),
+    (Declaration, "unsigned x", "unexpected 1:11"),
+    (Declaration, "int = 1;", "unexpected 1:5"),
+    (Declaration, "int x = ;", "unexpected 1:9"),
+    (Named, "x = 1;", "2 1:7"),
+    (Named, "x->f += y + 1;", "3 1:15"),
+    (Named, "x++;", "2 1:5"),
+    (Named, "f(x, y + 1);", "3 1:13"),
+    (Named, "f(x _(ghost y + 1));", "4 1:21"),
+    (Named, "f(x, _(ghost y));", "unexpected 1:6"),
+    (Named, "f();", "2 1:5"),
+    (Named, "x = InterlockedIncrement(&p->n);", "4 1:33"),
+    (Named, "x", "unexpected 1:2"),
+    (Named, "f(x", "unexpected 1:4"),
+    (Named, "f(x,);", "unexpected 1:5"),
+    (Named, "x + 1 = 2;", "unexpected 1:3"),
+    (Other, "(x)->f = 1;", "4 1:12"),
+    (Other, "5;", "unexpected 1:2"),
+    (Return, "return;", "1 1:8"),
+    (Return, "return x;", "2 1:10"),
+    (Return, "return x", "unexpected 1:9"),
+    (Spawn, "vcc_spawn(f, x);", "2 1:17"),
+    (Spawn, "vcc_spawn(f);", "2 1:14"),
+    (Spawn, "vcc_spawn();", "unexpected 1:11"),
+    (Free, "free(p);", "2 1:9"),
+    (Free, "free();", "unexpected 1:6"),
 ];
 
 /// Statements, and what is read of them.
@@ -343,62 +386,20 @@ const HIGH_STATEMENTS: &[(u32, &str, &str)] = &[
     (3, "_(unwrapping p) { ; }", "(unwrapping p ;) 3 1:22"),
 ];
 
-/// The expression that a short source begins with, its height, and the place behind it; or the fault.
-fn read(alloc: Global, mode: Mode, room: u32, source: &str) -> Result<String, AllocError> {
-    let mut text = String::new(alloc);
-    let source = source.as_bytes();
-    if source.len() > 1000 || room > 200 {
-        return Ok(text);
-    }
-    let Ok(list) = tokens(alloc, source) else {
-        text.push_str("no tokens")?;
-        return Ok(text);
-    };
-    write_read(&mut text, expression(alloc, mode, top(mode), room, &list))?;
-    Ok(text)
-}
-
-/// A source is read as its row says.
-fn reads(
-    rt: &impl Abort,
-    alloc: Global,
-    mode: Mode,
-    room: u32,
-    source: &str,
-    want: &str,
-) -> Result<(), AllocError> {
-    let got = read(alloc, mode, room, source)?;
-    is(rt, &got, want, source);
-    Ok(())
-}
-
-/// All sources of one mode are read as their rows say.
-fn all_read(
-    rt: &impl Abort,
-    alloc: Global,
-    mode: Mode,
-    rows: &[(&str, &str)],
-) -> Result<(), AllocError> {
-    for (source, want) in rows {
-        reads(rt, alloc, mode, 200, source, want)?;
-    }
-    Ok(())
-}
-
 #[test]
 fn code_groups_as_in_c(rt: HostRuntime) -> Result<(), AllocError> {
-    all_read(&rt, rt.alloc(), Code, CODE)
+    all_read(&rt, rt.alloc(), &Expression(Code), CODE)
 }
 
 #[test]
 fn annotations_group_as_their_levels_say(rt: HostRuntime) -> Result<(), AllocError> {
-    all_read(&rt, rt.alloc(), Spec, SPECS)
+    all_read(&rt, rt.alloc(), &Expression(Spec), SPECS)
 }
 
 #[test]
 fn faults_are_where_no_expression_goes_on(rt: HostRuntime) -> Result<(), AllocError> {
     for (mode, source, want) in NO_EXPRESSIONS {
-        reads(&rt, rt.alloc(), *mode, 200, source, want)?;
+        reads(&rt, rt.alloc(), &Expression(*mode), 200, source, want)?;
     }
     Ok(())
 }
@@ -406,93 +407,33 @@ fn faults_are_where_no_expression_goes_on(rt: HostRuntime) -> Result<(), AllocEr
 #[test]
 fn height_is_bounded_where_it_is_passed(rt: HostRuntime) -> Result<(), AllocError> {
     for (mode, room, source, want) in HIGH_EXPRESSIONS {
-        reads(&rt, rt.alloc(), *mode, *room, source, want)?;
+        reads(&rt, rt.alloc(), &Expression(*mode), *room, source, want)?;
     }
     Ok(())
-}
-
-/// The statement of this kind that a short source begins with: its height, and the place behind it; or the fault.
-fn simple(alloc: Global, kind: u8, source: &str) -> Result<String, AllocError> {
-    let mut text = String::new(alloc);
-    let source = source.as_bytes();
-    if source.len() > 1000 {
-        return Ok(text);
-    }
-    let Ok(list) = tokens(alloc, source) else {
-        return Ok(text);
-    };
-    match kind {
-        0 => write_height(&mut text, declaration(alloc, 200, &list))?,
-        1 => write_height(&mut text, named(alloc, 200, &list))?,
-        2 => write_height(&mut text, other(alloc, 200, &list))?,
-        3 => write_height(&mut text, return_statement(alloc, 200, &list))?,
-        4 => write_height(&mut text, spawn(alloc, 200, &list))?,
-        _ => write_height(&mut text, free_statement(alloc, 200, &list))?,
-    }
-    Ok(text)
 }
 
 #[test]
 fn statements_have_their_heights(rt: HostRuntime) -> Result<(), AllocError> {
-    for (kind, source, want) in SIMPLE {
-        let got = simple(rt.alloc(), *kind, source)?;
-        is(&rt, &got, want, source);
-    }
-    Ok(())
-}
-
-/// The statement that a short source begins with, its height, and the place behind it; or the fault.
-fn statement(alloc: Global, room: u32, source: &str) -> Result<String, AllocError> {
-    let mut text = String::new(alloc);
-    let source = source.as_bytes();
-    if source.len() > 1000 || room > 200 {
-        return Ok(text);
-    }
-    let Ok(list) = tokens(alloc, source) else {
-        return Ok(text);
-    };
-    write_read(
-        &mut text,
-        statement_reader::statements::statement(alloc, room, &list),
-    )?;
-    Ok(text)
-}
-
-/// A statement is read as its row says.
-fn stands(
-    rt: &impl Abort,
-    alloc: Global,
-    room: u32,
-    source: &str,
-    want: &str,
-) -> Result<(), AllocError> {
-    let got = statement(alloc, room, source)?;
-    is(rt, &got, want, source);
-    Ok(())
-}
-
-/// All statements are read as their rows say.
-fn all_stand(rt: &impl Abort, alloc: Global, rows: &[(&str, &str)]) -> Result<(), AllocError> {
-    for (source, want) in rows {
-        stands(rt, alloc, 200, source, want)?;
+    for (form, source, want) in SIMPLE {
+        reads(&rt, rt.alloc(), form, 200, source, want)?;
     }
     Ok(())
 }
 
 #[test]
 fn statements_hold_statements(rt: HostRuntime) -> Result<(), AllocError> {
-    all_stand(&rt, rt.alloc(), STATEMENTS)
+    all_read(&rt, rt.alloc(), &Statement, STATEMENTS)
 }
 
 #[test]
 fn faults_are_where_no_statement_goes_on(rt: HostRuntime) -> Result<(), AllocError> {
-    all_stand(&rt, rt.alloc(), NO_STATEMENTS)
+    all_read(&rt, rt.alloc(), &Statement, NO_STATEMENTS)
 }
 
 #[test]
 fn statements_are_no_higher_than_there_is_room(rt: HostRuntime) -> Result<(), AllocError> {
     for (room, source, want) in HIGH_STATEMENTS {
-        stands(&rt, rt.alloc(), *room, source, want)?;
+        reads(&rt, rt.alloc(), &Statement, *room, source, want)?;
     }
     Ok(())
 }

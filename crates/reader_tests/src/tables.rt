@@ -1,18 +1,15 @@
-//! Tokens written by hand, and tables of what is read of them.
+//! Tables of what is read: of tokens written by hand, and of sources.
 
-use crate::readings::is;
 use c_syntax::token::{Span, Token, TokenKind};
 use std::alloc::{AllocError, Global};
 use std::process::Abort;
+use vcc_lexer::tokens;
 
 /// The kinds of a list of tokens, which all stand at one place.
 pub type Tokens = &'static [TokenKind<'static>];
 
 /// What is read, the room for it, the token from which on it is read, and what is told of it.
 pub type Row<R> = (R, u32, usize, &'static str);
-
-/// A list of tokens, and rows about it.
-pub type Case<R> = (Tokens, &'static [Row<R>]);
 
 /// What reads tokens.
 pub trait Reader {
@@ -48,7 +45,7 @@ fn from<'a>(list: &'a [Token<'a>], at: usize) -> &'a [Token<'a>] {
 }
 
 /// The rows tell what is read of these tokens.
-fn hold<R: Reader>(
+pub fn hold<R: Reader>(
     rt: &impl Abort,
     alloc: Global,
     kinds: Tokens,
@@ -62,14 +59,51 @@ fn hold<R: Reader>(
     Ok(())
 }
 
-/// The rows of all cases do so.
-pub fn all_hold<R: Reader>(
+/// What is told of a short source.
+fn read<R: Reader>(
+    alloc: Global,
+    reader: &R,
+    room: u32,
+    source: &str,
+) -> Result<String, AllocError> {
+    let source = source.as_bytes();
+    if source.len() > 1000 {
+        return Ok(String::new(alloc));
+    }
+    match tokens(alloc, source) {
+        Ok(list) => reader.tell(alloc, room, &list),
+        Err(_) => String::from_str(alloc, "no tokens"),
+    }
+}
+
+/// A source is read as its row says.
+pub fn reads<R: Reader>(
     rt: &impl Abort,
     alloc: Global,
-    cases: &[Case<R>],
+    reader: &R,
+    room: u32,
+    source: &str,
+    want: &str,
 ) -> Result<(), AllocError> {
-    for (kinds, rows) in cases {
-        hold(rt, alloc, *kinds, *rows)?;
+    let got = read(alloc, reader, room, source)?;
+    is(rt, &got, want, source);
+    Ok(())
+}
+
+/// All sources are read as their rows say.
+pub fn all_read<R: Reader>(
+    rt: &impl Abort,
+    alloc: Global,
+    reader: &R,
+    rows: &[(&str, &str)],
+) -> Result<(), AllocError> {
+    for (source, want) in rows {
+        reads(rt, alloc, reader, 200, source, want)?;
     }
     Ok(())
+}
+
+/// A row's text is the one that it wants.
+fn is(rt: &impl Abort, got: &str, want: &str, row: &str) {
+    assert_eq!(rt; got, want, "at {row}");
 }
