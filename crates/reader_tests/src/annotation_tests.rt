@@ -1,23 +1,13 @@
 //! Annotations at the front of texts.
 
-use Answer::{Behind, TooDeep, Unexpected, UnknownForm};
-use c_source::fault::SourceFault;
-use c_syntax::token::Span;
+use crate::answers::Answer::{self, Behind, TooDeep, Unexpected, UnknownForm};
+use crate::answers::{answer_of, is};
 use piece_reader::Place::{Argument, Contract, Ghost, Loop, Member, Parameter, Statement, Struct};
 use piece_reader::{Place, is_annotation, read_annotation};
 use std::alloc::Global;
-use std::test::Fail;
+use std::process::Abort;
+use std::test::*;
 use vcc_lexer::tokens;
-
-/// How many tokens are read, or the fault.
-#[derive(Clone, Copy, Debug, PartialEq, Eq)]
-enum Answer {
-    Behind(usize),
-    Unexpected(u32),
-    UnknownForm(u32),
-    TooDeep(u32),
-    Other,
-}
 
 /// A text, where it stands, and the place behind the annotation in front of it, or the column of the fault.
 type Row = (&'static str, Place, Answer);
@@ -152,65 +142,61 @@ fn answered(alloc: Global, text: &str, at: usize, above: u32, place: Place) -> A
     if bytes.len() > 1000 || above > 200 {
         return Answer::Other;
     }
-    let tokens = match tokens(alloc, bytes) {
-        Ok(tokens) => tokens,
-        Err(_) => return Answer::Other,
+    let Ok(tokens) = tokens(alloc, bytes) else {
+        return Answer::Other;
     };
     if at >= tokens.len() || !is_annotation(tokens.as_slice(), at) {
         return Answer::Other;
     }
-    match read_annotation(alloc, tokens.as_slice(), at, above, place) {
-        Ok((_, behind)) => Answer::Behind(behind),
-        Err(SourceFault::Unexpected(Span { line: 1, column })) => Answer::Unexpected(column),
-        Err(SourceFault::UnknownForm(Span { line: 1, column })) => Answer::UnknownForm(column),
-        Err(SourceFault::TooDeep(Span { line: 1, column })) => Answer::TooDeep(column),
-        Err(_) => Answer::Other,
-    }
+    answer_of(read_annotation(alloc, tokens.as_slice(), at, above, place))
 }
 
-/// The first row of a table that is answered otherwise.
-fn compare(alloc: Global, rows: &'static [Row]) -> Option<(&'static str, Answer)> {
+/// The rows of a table are answered as they say.
+fn all_answered(rt: &impl Abort, alloc: Global, rows: &[Row]) {
     for (text, place, want) in rows {
-        let got = answered(alloc, text, 0, 0, *place);
-        if got != *want {
-            return Some((text, got));
-        }
+        is(rt, answered(alloc, text, 0, 0, *place), *want, text, 0, 0);
     }
-    None
 }
 
 #[test]
-fn accepted(rt: HostRuntime) -> Result<(), Fail> {
-    assert_eq!(rt; compare(rt.alloc(), ACCEPTED), None);
-    Ok(())
+fn accepted(rt: HostRuntime) {
+    all_answered(&rt, rt.alloc(), ACCEPTED);
 }
 
 #[test]
-fn refused(rt: HostRuntime) -> Result<(), Fail> {
-    assert_eq!(rt; compare(rt.alloc(), REFUSED), None);
-    Ok(())
+fn refused(rt: HostRuntime) {
+    all_answered(&rt, rt.alloc(), REFUSED);
 }
 
 #[test]
-fn unknown(rt: HostRuntime) -> Result<(), Fail> {
-    assert_eq!(rt; compare(rt.alloc(), UNKNOWN), None);
-    Ok(())
+fn unknown(rt: HostRuntime) {
+    all_answered(&rt, rt.alloc(), UNKNOWN);
 }
 
 #[test]
-fn later(rt: HostRuntime) -> Result<(), Fail> {
+fn later(rt: HostRuntime) {
     for (text, at, place, want) in LATER {
-        let got = answered(rt.alloc(), text, *at, 0, *place);
-        assert_eq!(rt; got, *want, "for {text} from {at} on");
+        is(
+            &rt,
+            answered(rt.alloc(), text, *at, 0, *place),
+            *want,
+            text,
+            *at,
+            0,
+        );
     }
-    Ok(())
 }
 
 #[test]
-fn high(rt: HostRuntime) -> Result<(), Fail> {
+fn high(rt: HostRuntime) {
     for (text, above, place, want) in HIGH {
-        let got = answered(rt.alloc(), text, 0, *above, *place);
-        assert_eq!(rt; got, *want, "for {text} within {above}");
+        is(
+            &rt,
+            answered(rt.alloc(), text, 0, *above, *place),
+            *want,
+            text,
+            0,
+            *above,
+        );
     }
-    Ok(())
 }

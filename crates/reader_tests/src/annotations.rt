@@ -1,99 +1,87 @@
 //! Tables of ghost statements, over tokens written by hand. What is read is shown by its height and the number of tokens behind it, a fault by the number of tokens from it on.
 
+use crate::readings::counted;
+use crate::tables::{Reader, Row, Tokens, hold};
+use Form::{GhostBody, GhostName, GhostStatement, Set};
 use annot_syntax::ghost_places::ghost_name;
 use annot_syntax::ghosts::{ghost_body, ghost_statement};
 use annot_syntax::sets::set;
-use c_syntax::token::{Keyword, Sign, Span, SpecWord, Token, TokenKind};
-use expr_reader::reading::{ReadFault, Reading};
+use c_syntax::token::TokenKind::{Keyword as Key, Name, Sign as Mark, SpecWord as Word};
+use c_syntax::token::{Keyword, Sign, SpecWord, Token};
 use std::alloc::{AllocError, Global};
-use std::fmt::Write;
 use std::test::*;
 
-const fn token(kind: TokenKind<'static>) -> Token<'static> {
-    Token {
-        kind,
-        span: Span { line: 1, column: 1 },
-        start: 0,
-        end: 0,
+/// What is read.
+#[derive(Clone, Copy)]
+enum Form {
+    GhostBody,
+    GhostName,
+    GhostStatement,
+    Set,
+}
+
+impl Reader for Form {
+    fn tell<'a>(
+        &self,
+        alloc: Global,
+        room: u32,
+        tokens: &'a [Token<'a>],
+    ) -> Result<String, AllocError> {
+        if room > 200 {
+            return Ok(String::new(alloc));
+        }
+        match self {
+            GhostBody => counted(alloc, ghost_body(alloc, room, tokens)),
+            GhostName => counted(alloc, ghost_name(alloc, room, tokens)),
+            GhostStatement => counted(alloc, ghost_statement(alloc, room, tokens)),
+            Set => counted(alloc, set(alloc, room, tokens)),
+        }
     }
 }
 
-const fn sign(sign: Sign) -> Token<'static> {
-    token(TokenKind::Sign(sign))
-}
+/// An owned set that is assigned.
+const OWNED: Tokens = &[
+    Name(b"a"),
+    Mark(Sign::Arrow),
+    Word(SpecWord::Owns),
+    Mark(Sign::Assign),
+    Mark(Sign::BraceOpen),
+    Mark(Sign::BraceClose),
+    Mark(Sign::Close),
+];
 
-const fn name() -> Token<'static> {
-    token(TokenKind::Name(b"a"))
-}
+/// A block with two declarations, the second with nothing behind it but the brace.
+const BLOCK: Tokens = &[
+    Mark(Sign::BraceOpen),
+    Key(Keyword::Int),
+    Name(b"a"),
+    Mark(Sign::Semicolon),
+    Word(SpecWord::Claim),
+    Name(b"a"),
+    Mark(Sign::BraceClose),
+    Mark(Sign::Close),
+];
 
-/// What was read, or the fault.
-fn shown<'a, T: Drop>(alloc: Global, reading: Reading<'a, T>) -> Result<String, AllocError> {
-    let mut text = String::new(alloc);
-    match reading {
-        Ok(found) => {
-            let height = found.height;
-            let left = found.rest.len();
-            write!(text, "{height} high, {left} left")?;
-        }
-        Err(ReadFault::Unexpected(rest)) => {
-            let left = rest.len();
-            write!(text, "unexpected, {left} left")?;
-        }
-        Err(ReadFault::TooDeep(rest)) => {
-            let left = rest.len();
-            write!(text, "too deep, {left} left")?;
-        }
-        Err(ReadFault::OutOfMemory) => write!(text, "out of memory")?,
-    }
-    Ok(text)
-}
+const OWNED_ROWS: &[Row<Form>] = &[
+    (GhostName, 2, 0, "2 high, 4 left"),
+    (GhostStatement, 3, 0, "3 high, 1 left"),
+    (GhostStatement, 2, 0, "too deep, 6 left"),
+    (Set, 0, 4, "0 high, 1 left"),
+];
+
+const BLOCK_ROWS: &[Row<Form>] = &[
+    (GhostBody, 3, 0, "3 high, 1 left"),
+    (GhostBody, 2, 0, "too deep, 7 left"),
+    (GhostBody, 0, 0, "too deep, 8 left"),
+    (GhostBody, 3, 6, "unexpected, 2 left"),
+];
 
 #[test]
 fn owned_sets(rt: HostRuntime) -> Result<(), AllocError> {
-    let alloc = rt.alloc();
-    let tokens = [
-        name(),
-        sign(Sign::Arrow),
-        token(TokenKind::SpecWord(SpecWord::Owns)),
-        sign(Sign::Assign),
-        sign(Sign::BraceOpen),
-        sign(Sign::BraceClose),
-        sign(Sign::Close),
-    ];
-    let place = shown(alloc, ghost_name(alloc, 2, &tokens))?;
-    assert_eq!(rt; place.as_str(), "2 high, 4 left");
-    let change = shown(alloc, ghost_statement(alloc, 3, &tokens))?;
-    assert_eq!(rt; change.as_str(), "3 high, 1 left");
-    let deep = shown(alloc, ghost_statement(alloc, 2, &tokens))?;
-    assert_eq!(rt; deep.as_str(), "too deep, 6 left");
-    let none = shown(alloc, set(alloc, 0, &tokens[4..]))?;
-    assert_eq!(rt; none.as_str(), "0 high, 1 left");
-    Ok(())
+    hold(&rt, rt.alloc(), OWNED, OWNED_ROWS)
 }
 
 #[test]
 fn blocks(rt: HostRuntime) -> Result<(), AllocError> {
-    let alloc = rt.alloc();
-    let tokens = [
-        sign(Sign::BraceOpen),
-        token(TokenKind::Keyword(Keyword::Int)),
-        name(),
-        sign(Sign::Semicolon),
-        token(TokenKind::SpecWord(SpecWord::Claim)),
-        name(),
-        sign(Sign::BraceClose),
-        sign(Sign::Close),
-    ];
-    let cases = [
-        (3, "3 high, 1 left"),
-        (2, "too deep, 7 left"),
-        (0, "too deep, 8 left"),
-    ];
-    for (room, expected) in cases {
-        let text = shown(alloc, ghost_body(alloc, room, &tokens))?;
-        assert_eq!(rt; text.as_str(), expected);
-    }
-    let last = shown(alloc, ghost_body(alloc, 3, &tokens[6..]))?;
-    assert_eq!(rt; last.as_str(), "unexpected, 2 left");
-    Ok(())
+    hold(&rt, rt.alloc(), BLOCK, BLOCK_ROWS)
 }

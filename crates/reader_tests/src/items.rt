@@ -1,10 +1,13 @@
 //! Tables of contracts, parameters and structs, over tokens written by hand. What is read is shown with its height and the number of tokens behind it, a fault by the number of tokens from it on.
 
-use c_syntax::expressions::{Expr, Identifier, ValueType};
-use c_syntax::items::{Clause, Member, Parameter, WritesItem};
-use c_syntax::token::{Keyword, Sign, Span, SpecWord, Token, TokenKind};
-use c_syntax::tree::Attribute;
-use expr_reader::reading::{ReadFault, Reading};
+use crate::readings::given;
+use crate::tables::{Reader, Row, Tokens, by_hand, hold};
+use Form::{
+    AttributeList, Attributes, Clause, Clauses, GhostParameters, Member, Members, Parameters,
+    StructBehind, Written, WrittenList,
+};
+use c_syntax::token::TokenKind::{Keyword as Key, Name, Sign as Mark, SpecWord as Word};
+use c_syntax::token::{Keyword, Sign, SpecWord, Token, TokenKind};
 use item_reader::attributes::{attribute_list, attributes};
 use item_reader::clauses::{clause, clauses};
 use item_reader::members::{member, members};
@@ -12,249 +15,330 @@ use item_reader::parameters::{ghost_parameters, parameters};
 use item_reader::structs::struct_behind;
 use item_reader::writes::{begins_property, written, written_list};
 use std::alloc::{AllocError, Global};
-use std::fmt::Write;
 use std::test::*;
 
-const fn token(kind: TokenKind<'static>) -> Token<'static> {
-    Token {
-        kind,
-        span: Span { line: 1, column: 1 },
-        start: 0,
-        end: 0,
-    }
+/// What is read.
+#[derive(Clone, Copy)]
+enum Form {
+    AttributeList,
+    Attributes,
+    Clause,
+    Clauses,
+    GhostParameters,
+    Member,
+    Members,
+    Parameters,
+    StructBehind,
+    Written,
+    WrittenList,
 }
 
-const fn sign(sign: Sign) -> Token<'static> {
-    token(TokenKind::Sign(sign))
-}
-
-const fn key(keyword: Keyword) -> Token<'static> {
-    token(TokenKind::Keyword(keyword))
-}
-
-const fn spec(word: SpecWord) -> Token<'static> {
-    token(TokenKind::SpecWord(word))
-}
-
-const fn name(text: &'static [u8]) -> Token<'static> {
-    token(TokenKind::Name(text))
-}
-
-/// Tells how high the value is and how many tokens stand behind it, or the fault.
-fn outcome<'a, T: Drop>(
-    text: &mut String,
-    reading: Reading<'a, T>,
-) -> Result<Option<T>, AllocError> {
-    match reading {
-        Ok(found) => {
-            let height = found.height;
-            let left = found.rest.len();
-            write!(text, "{height} high, {left} left:")?;
-            Ok(Some(found.value))
+impl Reader for Form {
+    fn tell<'a>(
+        &self,
+        alloc: Global,
+        room: u32,
+        tokens: &'a [Token<'a>],
+    ) -> Result<String, AllocError> {
+        if room > 200 {
+            return Ok(String::new(alloc));
         }
-        Err(ReadFault::Unexpected(rest)) => {
-            let left = rest.len();
-            write!(text, "unexpected, {left} left")?;
-            Ok(None)
-        }
-        Err(ReadFault::TooDeep(rest)) => {
-            let left = rest.len();
-            write!(text, "too deep, {left} left")?;
-            Ok(None)
-        }
-        Err(ReadFault::OutOfMemory) => {
-            write!(text, "out of memory")?;
-            Ok(None)
+        match self {
+            AttributeList => given(alloc, attribute_list(alloc, room, tokens)),
+            Attributes => given(alloc, attributes(alloc, room, tokens)),
+            Clause => given(alloc, clause(alloc, room, tokens)),
+            Clauses => given(alloc, clauses(alloc, room, tokens)),
+            GhostParameters => given(alloc, ghost_parameters(alloc, room, tokens)),
+            Member => given(alloc, member(alloc, room, tokens)),
+            Members => given(alloc, members(alloc, room, tokens)),
+            Parameters => given(alloc, parameters(alloc, room, tokens)),
+            StructBehind => given(alloc, struct_behind(alloc, room, tokens)),
+            Written => given(alloc, written(alloc, room, tokens)),
+            WrittenList => given(alloc, written_list(alloc, room, tokens)),
         }
     }
 }
 
-fn write_name(text: &mut String, name: &Identifier) -> Result<(), AllocError> {
-    let name = str::from_utf8(&name.name).unwrap_or("?");
-    write!(text, " {name}")?;
-    Ok(())
-}
+/// Tokens, and whether a property begins with them.
+const BEGINNINGS: &[(TokenKind<'static>, bool)] = &[
+    (Name(b"a"), true),
+    (Mark(Sign::Not), true),
+    (Mark(Sign::Open), true),
+    (Key(Keyword::Null), true),
+    (Word(SpecWord::Forall), true),
+    (Word(SpecWord::Old), true),
+    (Word(SpecWord::Me), true),
+    (Word(SpecWord::Span), false),
+    (Word(SpecWord::Owns), false),
+    (Mark(Sign::Close), false),
+    (Key(Keyword::Ghost), false),
+];
 
-/// The name that the expression is.
-fn write_expr(text: &mut String, expr: &Expr) -> Result<(), AllocError> {
-    match expr {
-        Expr::Name(name) => write_name(text, name),
-        _ => {
-            write!(text, " ?")?;
-            Ok(())
-        }
-    }
-}
+/// Items of a writes list.
+const WRITTEN: Tokens = &[
+    Name(b"a"),
+    Mark(Sign::Comma),
+    Word(SpecWord::Span),
+    Mark(Sign::Open),
+    Name(b"b"),
+    Mark(Sign::Close),
+    Mark(Sign::Comma),
+    Word(SpecWord::Extent),
+    Mark(Sign::Open),
+    Name(b"c"),
+    Mark(Sign::Close),
+    Mark(Sign::Close),
+];
 
-fn write_type(text: &mut String, ty: &ValueType) -> Result<(), AllocError> {
-    match ty {
-        ValueType::Integer(ty) => write!(text, " {ty:?}")?,
-        ValueType::Pointer(name) => {
-            write!(text, " to")?;
-            write_name(text, name)?;
-        }
-        ValueType::Object => write!(text, " object")?,
-        ValueType::Claim => write!(text, " claim")?,
-    }
-    Ok(())
-}
+/// A span without its end.
+const OPEN_SPAN: Tokens = &[Word(SpecWord::Span), Mark(Sign::Open), Name(b"b")];
 
-fn write_written(text: &mut String, item: &WritesItem) -> Result<(), AllocError> {
-    match item {
-        WritesItem::Object(object) => write_expr(text, object),
-        WritesItem::Span(_, object) => {
-            write!(text, " span")?;
-            write_expr(text, object)
-        }
-        WritesItem::Extent(_, object) => {
-            write!(text, " extent")?;
-            write_expr(text, object)
-        }
-    }
-}
+/// An item and a comma.
+const TRAILING_WRITTEN: Tokens = &[Name(b"a"), Mark(Sign::Comma), Mark(Sign::Close)];
 
-fn write_clause(text: &mut String, clause: &Clause) -> Result<(), AllocError> {
-    match clause {
-        Clause::Condition(_, condition, property) => {
-            write!(text, " {condition:?}")?;
-            write_expr(text, property)
-        }
-        Clause::Writes(_, all) => {
-            write!(text, " Writes")?;
-            for item in all {
-                write_written(text, item)?;
-            }
-            Ok(())
-        }
-    }
-}
+const WRITTEN_ROWS: &[Row<Form>] = &[
+    (Written, 9, 0, "1 high, 11 left: a"),
+    (Written, 2, 2, "2 high, 6 left: span b"),
+    (Written, 1, 2, "too deep, 10 left"),
+    (Written, 9, 7, "2 high, 1 left: extent c"),
+    (Written, 9, 1, "unexpected, 11 left"),
+    (WrittenList, 9, 0, "2 high, 1 left: a span b extent c"),
+];
 
-fn write_parameter(text: &mut String, parameter: &Parameter) -> Result<(), AllocError> {
-    write_type(text, &parameter.ty)?;
-    write_name(text, &parameter.name)
-}
+const OPEN_SPAN_ROWS: &[Row<Form>] = &[(Written, 9, 0, "unexpected, 0 left")];
 
-fn write_member(text: &mut String, member: &Member) -> Result<(), AllocError> {
-    match member {
-        Member::Field(field) => {
-            if field.is_ghost {
-                write!(text, " ghost")?;
-            }
-            if field.is_volatile {
-                write!(text, " volatile")?;
-            }
-            write_type(text, &field.ty)?;
-            write_name(text, &field.name)
-        }
-        Member::Invariant(invariant) => {
-            write!(text, " invariant")?;
-            write_expr(text, &invariant.property)
-        }
-    }
-}
+const TRAILING_WRITTEN_ROWS: &[Row<Form>] = &[(WrittenList, 9, 0, "unexpected, 1 left")];
 
-fn written_text(alloc: Global, reading: Reading<'_, WritesItem>) -> Result<String, AllocError> {
-    let mut text = String::new(alloc);
-    if let Some(item) = outcome(&mut text, reading)? {
-        write_written(&mut text, &item)?;
-    }
-    Ok(text)
-}
+/// Clauses.
+const CLAUSES: Tokens = &[
+    Mark(Sign::Annotation),
+    Key(Keyword::Requires),
+    Name(b"a"),
+    Mark(Sign::Close),
+    Mark(Sign::Annotation),
+    Key(Keyword::Ensures),
+    Name(b"b"),
+    Mark(Sign::Close),
+    Mark(Sign::Annotation),
+    Key(Keyword::Maintains),
+    Name(b"c"),
+    Mark(Sign::Close),
+    Mark(Sign::Annotation),
+    Key(Keyword::Writes),
+    Name(b"d"),
+    Mark(Sign::Comma),
+    Name(b"e"),
+    Mark(Sign::Close),
+    Mark(Sign::BraceOpen),
+];
 
-fn written_list_text(
-    alloc: Global,
-    reading: Reading<'_, Vec<WritesItem>>,
-) -> Result<String, AllocError> {
-    let mut text = String::new(alloc);
-    if let Some(all) = outcome(&mut text, reading)? {
-        for item in &all {
-            write_written(&mut text, item)?;
-        }
-    }
-    Ok(text)
-}
+/// A clause, and the beginning of another.
+const CUT_CLAUSE: Tokens = &[
+    Mark(Sign::Annotation),
+    Key(Keyword::Requires),
+    Name(b"a"),
+    Mark(Sign::Close),
+    Mark(Sign::Annotation),
+    Key(Keyword::Ensures),
+    Name(b"b"),
+];
 
-fn clause_text(alloc: Global, reading: Reading<'_, Clause>) -> Result<String, AllocError> {
-    let mut text = String::new(alloc);
-    if let Some(clause) = outcome(&mut text, reading)? {
-        write_clause(&mut text, &clause)?;
-    }
-    Ok(text)
-}
+/// An annotation that is no clause.
+const NO_CLAUSE: Tokens = &[Mark(Sign::Annotation), Key(Keyword::Assert), Name(b"a")];
 
-fn clauses_text(alloc: Global, reading: Reading<'_, Vec<Clause>>) -> Result<String, AllocError> {
-    let mut text = String::new(alloc);
-    if let Some(all) = outcome(&mut text, reading)? {
-        for clause in &all {
-            write_clause(&mut text, clause)?;
-        }
-    }
-    Ok(text)
-}
+const CLAUSES_ROWS: &[Row<Form>] = &[
+    (Clause, 2, 0, "2 high, 15 left: Requires a"),
+    (Clause, 1, 0, "too deep, 18 left"),
+    (Clause, 0, 0, "too deep, 19 left"),
+    (
+        Clauses,
+        2,
+        0,
+        "2 high, 1 left: Requires a Ensures b Maintains c Writes d e",
+    ),
+    (Clauses, 1, 0, "too deep, 19 left"),
+    (Clauses, 0, 18, "0 high, 1 left:"),
+];
 
-fn parameters_text(
-    alloc: Global,
-    reading: Reading<'_, Vec<Parameter>>,
-) -> Result<String, AllocError> {
-    let mut text = String::new(alloc);
-    if let Some(all) = outcome(&mut text, reading)? {
-        for parameter in &all {
-            write_parameter(&mut text, parameter)?;
-        }
-    }
-    Ok(text)
-}
+const CUT_CLAUSE_ROWS: &[Row<Form>] = &[(Clauses, 9, 0, "unexpected, 0 left")];
 
-fn attributes_text(
-    alloc: Global,
-    reading: Reading<'_, Vec<Attribute>>,
-) -> Result<String, AllocError> {
-    let mut text = String::new(alloc);
-    if let Some(all) = outcome(&mut text, reading)? {
-        for attribute in &all {
-            write!(text, " {attribute:?}")?;
-        }
-    }
-    Ok(text)
-}
+const NO_CLAUSE_ROWS: &[Row<Form>] = &[(Clause, 9, 0, "unexpected, 2 left")];
 
-fn member_text(alloc: Global, reading: Reading<'_, Member>) -> Result<String, AllocError> {
-    let mut text = String::new(alloc);
-    if let Some(member) = outcome(&mut text, reading)? {
-        write_member(&mut text, &member)?;
-    }
-    Ok(text)
-}
+/// Parameters.
+const PARAMETERS: Tokens = &[
+    Key(Keyword::Int),
+    Name(b"a"),
+    Mark(Sign::Comma),
+    Key(Keyword::Struct),
+    Name(b"s"),
+    Mark(Sign::Star),
+    Name(b"b"),
+    Mark(Sign::Close),
+];
 
-fn members_text(alloc: Global, reading: Reading<'_, Vec<Member>>) -> Result<String, AllocError> {
-    let mut text = String::new(alloc);
-    if let Some(all) = outcome(&mut text, reading)? {
-        for member in &all {
-            write_member(&mut text, member)?;
-        }
-    }
-    Ok(text)
+/// A type with no name.
+const NO_NAME: Tokens = &[Key(Keyword::Int)];
+
+/// No parameters.
+const VOID: Tokens = &[Key(Keyword::Void), Mark(Sign::Close)];
+
+/// A parameter and a comma.
+const TRAILING_PARAMETER: Tokens = &[
+    Key(Keyword::Int),
+    Name(b"a"),
+    Mark(Sign::Comma),
+    Mark(Sign::Close),
+];
+
+const PARAMETERS_ROWS: &[Row<Form>] = &[
+    (Parameters, 1, 0, "1 high, 1 left: Int a to s b"),
+    (Parameters, 0, 0, "too deep, 8 left"),
+    (Parameters, 0, 7, "0 high, 1 left:"),
+];
+
+const NO_NAME_ROWS: &[Row<Form>] = &[(Parameters, 9, 0, "unexpected, 0 left")];
+
+const VOID_ROWS: &[Row<Form>] = &[(Parameters, 0, 0, "0 high, 1 left:")];
+
+const TRAILING_PARAMETER_ROWS: &[Row<Form>] = &[(Parameters, 9, 0, "unexpected, 1 left")];
+
+/// Ghost parameters.
+const GHOST_PARAMETERS: Tokens = &[
+    Mark(Sign::Annotation),
+    Key(Keyword::Ghost),
+    Word(SpecWord::Claim),
+    Name(b"c"),
+    Mark(Sign::Close),
+    Mark(Sign::Annotation),
+    Key(Keyword::Ghost),
+    Key(Keyword::Int),
+    Name(b"n"),
+    Mark(Sign::Close),
+    Mark(Sign::Close),
+];
+
+/// An annotation that is no ghost parameter.
+const NO_GHOST_PARAMETER: Tokens = &[Mark(Sign::Annotation), Key(Keyword::Requires), Name(b"a")];
+
+const GHOST_PARAMETERS_ROWS: &[Row<Form>] = &[
+    (GhostParameters, 1, 0, "1 high, 1 left: claim c Int n"),
+    (GhostParameters, 0, 0, "too deep, 11 left"),
+    (GhostParameters, 0, 10, "0 high, 1 left:"),
+];
+
+const NO_GHOST_PARAMETER_ROWS: &[Row<Form>] = &[(GhostParameters, 9, 0, "unexpected, 2 left")];
+
+/// Lists of attributes.
+const ATTRIBUTES: Tokens = &[
+    Mark(Sign::Annotation),
+    Key(Keyword::Claimable),
+    Mark(Sign::Comma),
+    Key(Keyword::DynamicOwns),
+    Mark(Sign::Close),
+    Mark(Sign::Annotation),
+    Key(Keyword::VolatileOwns),
+    Mark(Sign::Close),
+    Key(Keyword::Struct),
+];
+
+/// A list with no attribute.
+const NO_ATTRIBUTE: Tokens = &[Mark(Sign::Annotation), Mark(Sign::Close)];
+
+const ATTRIBUTES_ROWS: &[Row<Form>] = &[
+    (AttributeList, 0, 0, "0 high, 4 left: Claimable DynamicOwns"),
+    (
+        Attributes,
+        0,
+        0,
+        "0 high, 1 left: Claimable DynamicOwns VolatileOwns",
+    ),
+    (Attributes, 0, 8, "unexpected, 1 left"),
+];
+
+const NO_ATTRIBUTE_ROWS: &[Row<Form>] = &[(Attributes, 0, 0, "unexpected, 1 left")];
+
+/// A struct from its brace on.
+const MEMBERS: Tokens = &[
+    Mark(Sign::BraceOpen),
+    Key(Keyword::Int),
+    Name(b"a"),
+    Mark(Sign::Semicolon),
+    Key(Keyword::Volatile),
+    Key(Keyword::Struct),
+    Name(b"s"),
+    Mark(Sign::Star),
+    Name(b"p"),
+    Mark(Sign::Semicolon),
+    Mark(Sign::Annotation),
+    Key(Keyword::Ghost),
+    Key(Keyword::Volatile),
+    Word(SpecWord::Object),
+    Name(b"o"),
+    Mark(Sign::Semicolon),
+    Mark(Sign::Close),
+    Mark(Sign::Annotation),
+    Key(Keyword::Ghost),
+    Key(Keyword::Int),
+    Name(b"g"),
+    Mark(Sign::Close),
+    Mark(Sign::Annotation),
+    Key(Keyword::Invariant),
+    Name(b"a"),
+    Mark(Sign::Close),
+    Mark(Sign::BraceClose),
+    Mark(Sign::Semicolon),
+];
+
+/// A struct with no member.
+const NO_MEMBER: Tokens = &[
+    Mark(Sign::BraceOpen),
+    Mark(Sign::BraceClose),
+    Mark(Sign::Semicolon),
+];
+
+/// A struct that does not end.
+const UNENDED: Tokens = &[Mark(Sign::BraceOpen), Mark(Sign::BraceClose)];
+
+const MEMBERS_ROWS: &[Row<Form>] = &[
+    (Member, 1, 1, "1 high, 24 left: Int a"),
+    (Member, 0, 1, "too deep, 27 left"),
+    (Member, 1, 4, "1 high, 18 left: volatile to s p"),
+    (Member, 1, 10, "1 high, 11 left: ghost volatile object o"),
+    (Member, 1, 17, "1 high, 6 left: ghost Int g"),
+    (Member, 2, 22, "2 high, 2 left: invariant a"),
+    (Member, 1, 22, "too deep, 5 left"),
+    (Member, 9, 26, "unexpected, 2 left"),
+    (
+        Members,
+        2,
+        1,
+        "2 high, 2 left: Int a volatile to s p ghost volatile object o ghost Int g invariant a",
+    ),
+    (
+        StructBehind,
+        2,
+        0,
+        "2 high, 0 left: Int a volatile to s p ghost volatile object o ghost Int g invariant a",
+    ),
+];
+
+const NO_MEMBER_ROWS: &[Row<Form>] = &[(StructBehind, 0, 0, "0 high, 0 left:")];
+
+const UNENDED_ROWS: &[Row<Form>] = &[(StructBehind, 0, 0, "unexpected, 0 left")];
+
+/// Whether a property begins with this token.
+fn begins(alloc: Global, first: TokenKind<'static>) -> Result<bool, AllocError> {
+    let list = by_hand(alloc, &[first])?;
+    Ok(begins_property(&list))
 }
 
 #[test]
 fn a_property_begins_with_an_operand_or_an_operator_in_front(
     rt: HostRuntime,
 ) -> Result<(), AllocError> {
-    for (first, want) in [
-        (name(b"a"), true),
-        (sign(Sign::Not), true),
-        (sign(Sign::Open), true),
-        (key(Keyword::Null), true),
-        (spec(SpecWord::Forall), true),
-        (spec(SpecWord::Old), true),
-        (spec(SpecWord::Me), true),
-        (spec(SpecWord::Span), false),
-        (spec(SpecWord::Owns), false),
-        (sign(Sign::Close), false),
-        (key(Keyword::Ghost), false),
-    ] {
-        let list = [first];
-        assert_eq!(rt; begins_property(&list), want);
+    for (first, want) in BEGINNINGS {
+        let got = begins(rt.alloc(), *first)?;
+        assert_eq!(rt; got, *want);
     }
     Ok(())
 }
@@ -262,246 +346,46 @@ fn a_property_begins_with_an_operand_or_an_operator_in_front(
 #[test]
 fn written_items_are_objects_spans_and_extents(rt: HostRuntime) -> Result<(), AllocError> {
     let alloc = rt.alloc();
-    let list = [
-        name(b"a"),
-        sign(Sign::Comma),
-        spec(SpecWord::Span),
-        sign(Sign::Open),
-        name(b"b"),
-        sign(Sign::Close),
-        sign(Sign::Comma),
-        spec(SpecWord::Extent),
-        sign(Sign::Open),
-        name(b"c"),
-        sign(Sign::Close),
-        sign(Sign::Close),
-    ];
-    let first = written_text(alloc, written(alloc, 9, &list))?;
-    assert_eq!(rt; first.as_str(), "1 high, 11 left: a");
-    let second = written_text(alloc, written(alloc, 2, &list[2..]))?;
-    assert_eq!(rt; second.as_str(), "2 high, 6 left: span b");
-    let deep = written_text(alloc, written(alloc, 1, &list[2..]))?;
-    assert_eq!(rt; deep.as_str(), "too deep, 10 left");
-    let third = written_text(alloc, written(alloc, 9, &list[7..]))?;
-    assert_eq!(rt; third.as_str(), "2 high, 1 left: extent c");
-    let none = written_text(alloc, written(alloc, 9, &list[1..]))?;
-    assert_eq!(rt; none.as_str(), "unexpected, 11 left");
-    let open = written_text(alloc, written(alloc, 9, &list[2..5]))?;
-    assert_eq!(rt; open.as_str(), "unexpected, 0 left");
-    let all = written_list_text(alloc, written_list(alloc, 9, &list))?;
-    assert_eq!(rt; all.as_str(), "2 high, 1 left: a span b extent c");
-    let trailing = [name(b"a"), sign(Sign::Comma), sign(Sign::Close)];
-    let refused = written_list_text(alloc, written_list(alloc, 9, &trailing))?;
-    assert_eq!(rt; refused.as_str(), "unexpected, 1 left");
-    Ok(())
+    hold(&rt, alloc, WRITTEN, WRITTEN_ROWS)?;
+    hold(&rt, alloc, OPEN_SPAN, OPEN_SPAN_ROWS)?;
+    hold(&rt, alloc, TRAILING_WRITTEN, TRAILING_WRITTEN_ROWS)
 }
 
 #[test]
 fn clauses_stand_one_behind_the_other(rt: HostRuntime) -> Result<(), AllocError> {
     let alloc = rt.alloc();
-    let list = [
-        sign(Sign::Annotation),
-        key(Keyword::Requires),
-        name(b"a"),
-        sign(Sign::Close),
-        sign(Sign::Annotation),
-        key(Keyword::Ensures),
-        name(b"b"),
-        sign(Sign::Close),
-        sign(Sign::Annotation),
-        key(Keyword::Maintains),
-        name(b"c"),
-        sign(Sign::Close),
-        sign(Sign::Annotation),
-        key(Keyword::Writes),
-        name(b"d"),
-        sign(Sign::Comma),
-        name(b"e"),
-        sign(Sign::Close),
-        sign(Sign::BraceOpen),
-    ];
-    let one = clause_text(alloc, clause(alloc, 2, &list))?;
-    assert_eq!(rt; one.as_str(), "2 high, 15 left: Requires a");
-    let low = clause_text(alloc, clause(alloc, 1, &list))?;
-    assert_eq!(rt; low.as_str(), "too deep, 18 left");
-    let none = clause_text(alloc, clause(alloc, 0, &list))?;
-    assert_eq!(rt; none.as_str(), "too deep, 19 left");
-    let all = clauses_text(alloc, clauses(alloc, 2, &list))?;
-    assert_eq!(rt;
-        all.as_str(),
-        "2 high, 1 left: Requires a Ensures b Maintains c Writes d e"
-    );
-    let short = clauses_text(alloc, clauses(alloc, 1, &list))?;
-    assert_eq!(rt; short.as_str(), "too deep, 19 left");
-    let empty = clauses_text(alloc, clauses(alloc, 0, &list[18..]))?;
-    assert_eq!(rt; empty.as_str(), "0 high, 1 left:");
-    let cut = clauses_text(alloc, clauses(alloc, 9, &list[..7]))?;
-    assert_eq!(rt; cut.as_str(), "unexpected, 0 left");
-    let other = [sign(Sign::Annotation), key(Keyword::Assert), name(b"a")];
-    let refused = clause_text(alloc, clause(alloc, 9, &other))?;
-    assert_eq!(rt; refused.as_str(), "unexpected, 2 left");
-    Ok(())
+    hold(&rt, alloc, CLAUSES, CLAUSES_ROWS)?;
+    hold(&rt, alloc, CUT_CLAUSE, CUT_CLAUSE_ROWS)?;
+    hold(&rt, alloc, NO_CLAUSE, NO_CLAUSE_ROWS)
 }
 
 #[test]
 fn parameters_have_commas_between(rt: HostRuntime) -> Result<(), AllocError> {
     let alloc = rt.alloc();
-    let list = [
-        key(Keyword::Int),
-        name(b"a"),
-        sign(Sign::Comma),
-        key(Keyword::Struct),
-        name(b"s"),
-        sign(Sign::Star),
-        name(b"b"),
-        sign(Sign::Close),
-    ];
-    let two = parameters_text(alloc, parameters(alloc, 1, &list))?;
-    assert_eq!(rt; two.as_str(), "1 high, 1 left: Int a to s b");
-    let low = parameters_text(alloc, parameters(alloc, 0, &list))?;
-    assert_eq!(rt; low.as_str(), "too deep, 8 left");
-    let none = parameters_text(alloc, parameters(alloc, 0, &list[7..]))?;
-    assert_eq!(rt; none.as_str(), "0 high, 1 left:");
-    let no_name = parameters_text(alloc, parameters(alloc, 9, &list[..1]))?;
-    assert_eq!(rt; no_name.as_str(), "unexpected, 0 left");
-    let void = [key(Keyword::Void), sign(Sign::Close)];
-    let said = parameters_text(alloc, parameters(alloc, 0, &void))?;
-    assert_eq!(rt; said.as_str(), "0 high, 1 left:");
-    let trailing = [
-        key(Keyword::Int),
-        name(b"a"),
-        sign(Sign::Comma),
-        sign(Sign::Close),
-    ];
-    let refused = parameters_text(alloc, parameters(alloc, 9, &trailing))?;
-    assert_eq!(rt; refused.as_str(), "unexpected, 1 left");
-    Ok(())
+    hold(&rt, alloc, PARAMETERS, PARAMETERS_ROWS)?;
+    hold(&rt, alloc, NO_NAME, NO_NAME_ROWS)?;
+    hold(&rt, alloc, VOID, VOID_ROWS)?;
+    hold(&rt, alloc, TRAILING_PARAMETER, TRAILING_PARAMETER_ROWS)
 }
 
 #[test]
 fn ghost_parameters_stand_in_annotations(rt: HostRuntime) -> Result<(), AllocError> {
     let alloc = rt.alloc();
-    let list = [
-        sign(Sign::Annotation),
-        key(Keyword::Ghost),
-        spec(SpecWord::Claim),
-        name(b"c"),
-        sign(Sign::Close),
-        sign(Sign::Annotation),
-        key(Keyword::Ghost),
-        key(Keyword::Int),
-        name(b"n"),
-        sign(Sign::Close),
-        sign(Sign::Close),
-    ];
-    let two = parameters_text(alloc, ghost_parameters(alloc, 1, &list))?;
-    assert_eq!(rt; two.as_str(), "1 high, 1 left: claim c Int n");
-    let low = parameters_text(alloc, ghost_parameters(alloc, 0, &list))?;
-    assert_eq!(rt; low.as_str(), "too deep, 11 left");
-    let none = parameters_text(alloc, ghost_parameters(alloc, 0, &list[10..]))?;
-    assert_eq!(rt; none.as_str(), "0 high, 1 left:");
-    let other = [sign(Sign::Annotation), key(Keyword::Requires), name(b"a")];
-    let refused = parameters_text(alloc, ghost_parameters(alloc, 9, &other))?;
-    assert_eq!(rt; refused.as_str(), "unexpected, 2 left");
-    Ok(())
+    hold(&rt, alloc, GHOST_PARAMETERS, GHOST_PARAMETERS_ROWS)?;
+    hold(&rt, alloc, NO_GHOST_PARAMETER, NO_GHOST_PARAMETER_ROWS)
 }
 
 #[test]
 fn lists_of_attributes_become_one(rt: HostRuntime) -> Result<(), AllocError> {
     let alloc = rt.alloc();
-    let list = [
-        sign(Sign::Annotation),
-        key(Keyword::Claimable),
-        sign(Sign::Comma),
-        key(Keyword::DynamicOwns),
-        sign(Sign::Close),
-        sign(Sign::Annotation),
-        key(Keyword::VolatileOwns),
-        sign(Sign::Close),
-        key(Keyword::Struct),
-    ];
-    let first = attributes_text(alloc, attribute_list(alloc, 0, &list))?;
-    assert_eq!(rt; first.as_str(), "0 high, 4 left: Claimable DynamicOwns");
-    let all = attributes_text(alloc, attributes(alloc, 0, &list))?;
-    assert_eq!(rt;
-        all.as_str(),
-        "0 high, 1 left: Claimable DynamicOwns VolatileOwns"
-    );
-    let none = attributes_text(alloc, attributes(alloc, 0, &list[8..]))?;
-    assert_eq!(rt; none.as_str(), "unexpected, 1 left");
-    let empty = [sign(Sign::Annotation), sign(Sign::Close)];
-    let refused = attributes_text(alloc, attributes(alloc, 0, &empty))?;
-    assert_eq!(rt; refused.as_str(), "unexpected, 1 left");
-    Ok(())
+    hold(&rt, alloc, ATTRIBUTES, ATTRIBUTES_ROWS)?;
+    hold(&rt, alloc, NO_ATTRIBUTE, NO_ATTRIBUTE_ROWS)
 }
 
 #[test]
 fn members_are_fields_and_invariants(rt: HostRuntime) -> Result<(), AllocError> {
     let alloc = rt.alloc();
-    let list = [
-        sign(Sign::BraceOpen),
-        key(Keyword::Int),
-        name(b"a"),
-        sign(Sign::Semicolon),
-        key(Keyword::Volatile),
-        key(Keyword::Struct),
-        name(b"s"),
-        sign(Sign::Star),
-        name(b"p"),
-        sign(Sign::Semicolon),
-        sign(Sign::Annotation),
-        key(Keyword::Ghost),
-        key(Keyword::Volatile),
-        spec(SpecWord::Object),
-        name(b"o"),
-        sign(Sign::Semicolon),
-        sign(Sign::Close),
-        sign(Sign::Annotation),
-        key(Keyword::Ghost),
-        key(Keyword::Int),
-        name(b"g"),
-        sign(Sign::Close),
-        sign(Sign::Annotation),
-        key(Keyword::Invariant),
-        name(b"a"),
-        sign(Sign::Close),
-        sign(Sign::BraceClose),
-        sign(Sign::Semicolon),
-    ];
-    let field = member_text(alloc, member(alloc, 1, &list[1..]))?;
-    assert_eq!(rt; field.as_str(), "1 high, 24 left: Int a");
-    let low = member_text(alloc, member(alloc, 0, &list[1..]))?;
-    assert_eq!(rt; low.as_str(), "too deep, 27 left");
-    let pointer = member_text(alloc, member(alloc, 1, &list[4..]))?;
-    assert_eq!(rt; pointer.as_str(), "1 high, 18 left: volatile to s p");
-    let hidden = member_text(alloc, member(alloc, 1, &list[10..]))?;
-    assert_eq!(rt; hidden.as_str(), "1 high, 11 left: ghost volatile object o");
-    let bare = member_text(alloc, member(alloc, 1, &list[17..]))?;
-    assert_eq!(rt; bare.as_str(), "1 high, 6 left: ghost Int g");
-    let invariant = member_text(alloc, member(alloc, 2, &list[22..]))?;
-    assert_eq!(rt; invariant.as_str(), "2 high, 2 left: invariant a");
-    let deep = member_text(alloc, member(alloc, 1, &list[22..]))?;
-    assert_eq!(rt; deep.as_str(), "too deep, 5 left");
-    let none = member_text(alloc, member(alloc, 9, &list[26..]))?;
-    assert_eq!(rt; none.as_str(), "unexpected, 2 left");
-    let all = members_text(alloc, members(alloc, 2, &list[1..]))?;
-    assert_eq!(rt;
-        all.as_str(),
-        "2 high, 2 left: Int a volatile to s p ghost volatile object o ghost Int g invariant a"
-    );
-    let whole = members_text(alloc, struct_behind(alloc, 2, &list))?;
-    assert_eq!(rt;
-        whole.as_str(),
-        "2 high, 0 left: Int a volatile to s p ghost volatile object o ghost Int g invariant a"
-    );
-    let empty = [
-        sign(Sign::BraceOpen),
-        sign(Sign::BraceClose),
-        sign(Sign::Semicolon),
-    ];
-    let nothing = members_text(alloc, struct_behind(alloc, 0, &empty))?;
-    assert_eq!(rt; nothing.as_str(), "0 high, 0 left:");
-    let unended = members_text(alloc, struct_behind(alloc, 0, &empty[..2]))?;
-    assert_eq!(rt; unended.as_str(), "unexpected, 0 left");
-    Ok(())
+    hold(&rt, alloc, MEMBERS, MEMBERS_ROWS)?;
+    hold(&rt, alloc, NO_MEMBER, NO_MEMBER_ROWS)?;
+    hold(&rt, alloc, UNENDED, UNENDED_ROWS)
 }

@@ -7,6 +7,8 @@ mod annotation_tests;
 #[cfg(test)]
 mod annotations;
 #[cfg(test)]
+mod answers;
+#[cfg(test)]
 mod both_sides;
 #[cfg(test)]
 mod declarations;
@@ -17,6 +19,16 @@ mod items;
 #[cfg(test)]
 mod pieces;
 #[cfg(test)]
+mod printed;
+#[cfg(test)]
+mod printed_items;
+#[cfg(test)]
+mod printed_statements;
+#[cfg(test)]
+mod readings;
+#[cfg(test)]
 mod sources;
 #[cfg(test)]
 mod statements;
+#[cfg(test)]
+mod tables;

@@ -1,20 +1,10 @@
 //! Expressions at the front of texts.
 
-use c_source::fault::SourceFault;
-use c_syntax::token::Span;
+use crate::answers::{Answer, answer_of, is};
 use piece_reader::read_expression;
 use std::alloc::Global;
-use std::test::Fail;
+use std::test::*;
 use vcc_lexer::tokens;
-
-/// How many tokens are read, or the fault.
-#[derive(Clone, Copy, Debug, PartialEq, Eq)]
-enum Answer {
-    Behind(usize),
-    Unexpected(u32),
-    TooDeep(u32),
-    Other,
-}
 
 /// Texts, the token from which on an expression is read, and how many levels stand around it; and the place behind the
 /// expression, or the column of the fault.
@@ -57,26 +47,25 @@ fn answered(alloc: Global, text: &str, at: usize, above: u32) -> Answer {
     if bytes.len() > 1000 || above > 200 {
         return Answer::Other;
     }
-    let tokens = match tokens(alloc, bytes) {
-        Ok(tokens) => tokens,
-        Err(_) => return Answer::Other,
+    let Ok(tokens) = tokens(alloc, bytes) else {
+        return Answer::Other;
     };
     if at >= tokens.len() {
         return Answer::Other;
     }
-    match read_expression(alloc, tokens.as_slice(), at, above) {
-        Ok((_, behind)) => Answer::Behind(behind),
-        Err(SourceFault::Unexpected(Span { line: 1, column })) => Answer::Unexpected(column),
-        Err(SourceFault::TooDeep(Span { line: 1, column })) => Answer::TooDeep(column),
-        Err(_) => Answer::Other,
-    }
+    answer_of(read_expression(alloc, tokens.as_slice(), at, above))
 }
 
 #[test]
-fn rows(rt: HostRuntime) -> Result<(), Fail> {
+fn rows(rt: HostRuntime) {
     for (text, at, above, want) in ROWS {
-        let got = answered(rt.alloc(), text, *at, *above);
-        assert_eq!(rt; got, *want, "for {text} from {at} on within {above}");
+        is(
+            &rt,
+            answered(rt.alloc(), text, *at, *above),
+            *want,
+            text,
+            *at,
+            *above,
+        );
     }
-    Ok(())
 }
