@@ -6,6 +6,7 @@ use Rattle.typed_program.specs.Numbers.{Around}
 use Rattle.typed_program.specs.Annotations as a
 use Rattle.typed_program.specs.Views as view
 use Rattle.annotation_typing.specs.declared.annotations.TypedSpec.{TypedSpec}
+use Rattle.annotation_typing.specs.declared.parts.BoxedSpec.{BoxedSpec}
 use Rattle.annotation_typing.specs.declared.rows.Row.{Row}
 
 -- an expression of an annotation as it is typed, and the number that the next quantified formula behind it has. Own
@@ -15,6 +16,10 @@ pub record Typed : Type 0 where
 
 abbrev pub annotation : TypedSpec → Typed
 annotation x = record { spec = view.spec x.spec; next = x.next }
+
+-- the same in a box
+abbrev pub boxed : BoxedSpec → Typed
+boxed x = record { spec = view.spec x.spec.value; next = x.next }
 
 abbrev pub typed : Around → ℕ → Exp → Typed
 typed c n x = record { spec = a.spec c n x; next = n + a.formulas x }

@@ -6,11 +6,11 @@ ghost use Rattle.code_typing.specs.Views.{around as surroundings};
 ghost use Rattle.typed_program.specs.Annotations as spec;
 ghost use Rattle.typed_program.specs.Views.{spec as said, specs};
 ghost use Rattle.annotation_typing.specs.Typing.{only_typed, arguments_typed, property_typed, conjuncts_typed, mine_arguments_typed, for_all_typed, exists_body_typed, owner_typed, others_typed, no_form_typed};
-ghost use Rattle.annotation_typing.specs.Views.{annotation as seen, typed, row_of};
+ghost use Rattle.annotation_typing.specs.Views.{annotation as unboxed, boxed as seen, typed, row_of};
 
 use crate::counts::{behind, plus};
 use crate::parts::{
-    apply, binary, claims_object, conditional, field, lists, name, status, unary,
+    BoxedSpec, apply, binary, claims_object, conditional, field, lists, name, status, unary,
     within_quantifier, word,
 };
 use crate::rows::{Row, all_owned, claims, exists, for_all, single};
@@ -29,57 +29,50 @@ pub struct TypedSpec {
     pub next: u32,
 }
 
-/// An expression whose first quantified formula has this number.
+/// An expression whose first quantified formula has this number, in a box.
 #[cycle(annotations)]
-pub fn annotation<'s, 'a>(
+fn boxed<'s, 'a>(
     alloc: Global,
     around: Around<'s, 'a>,
     first: u32,
     x: &'a Expr,
-) -> Result<TypedSpec, AllocError>
+) -> Result<BoxedSpec, AllocError>
     ensures { IfOk result (λ v. seen v ≡ typed (surroundings around.entry) first (view.exp x.now)) }
 {
     match x {
-        Expr::Number(_, value, _) => Ok(TypedSpec {
-            spec: Spec::Number(i128::from(*value)),
-            next: first,
-        }),
+        Expr::Number(_, value, _) => {
+            BoxedSpec::new(alloc, Spec::Number(i128::from(*value)), first)
+        }
         Expr::Name(known) => name(alloc, around, first, known),
-        Expr::Null(_) => Ok(TypedSpec {
-            spec: Spec::Null,
-            next: first,
-        }),
-        Expr::Constant(_, constant) => Ok(TypedSpec {
-            spec: word(*constant),
-            next: first,
-        }),
-        Expr::Group(_, inner) => annotation(alloc, around, first, inner),
+        Expr::Null(_) => BoxedSpec::new(alloc, Spec::Null, first),
+        Expr::Constant(_, constant) => BoxedSpec::new(alloc, word(*constant), first),
+        Expr::Group(_, inner) => boxed(alloc, around, first, inner),
         Expr::Field(_, left, named) => {
-            let inner = annotation(alloc, around, first, left)?;
+            let inner = boxed(alloc, around, first, left)?;
             field(alloc, around, left, named, inner)
         }
         Expr::Status(_, left, _, which) => {
-            let inner = annotation(alloc, around, first, left)?;
+            let inner = boxed(alloc, around, first, left)?;
             status(alloc, *which, inner)
         }
-        Expr::Owns(_, left, _) => annotation(alloc, around, first, left),
+        Expr::Owns(_, left, _) => boxed(alloc, around, first, left),
         Expr::Unary(_, operator, operand) => {
-            let inner = annotation(alloc, around, first, operand)?;
+            let inner = boxed(alloc, around, first, operand)?;
             unary(alloc, *operator, inner)
         }
         Expr::Binary(_, operator, left, right) => {
-            let front = annotation(alloc, around, first, left)?;
-            let back = annotation(alloc, around, front.next, right)?;
+            let front = boxed(alloc, around, first, left)?;
+            let back = boxed(alloc, around, front.next, right)?;
             binary(alloc, *operator, front, back)
         }
         Expr::Conditional(_, test, left, right) => {
-            let condition = annotation(alloc, around, first, test)?;
-            let front = annotation(alloc, around, condition.next, left)?;
-            let back = annotation(alloc, around, front.next, right)?;
+            let condition = boxed(alloc, around, first, test)?;
+            let front = boxed(alloc, around, condition.next, left)?;
+            let back = boxed(alloc, around, front.next, right)?;
             conditional(alloc, condition, front, back)
         }
         Expr::Apply(_, function, argument) => {
-            let inner = annotation(alloc, around, first, argument)?;
+            let inner = boxed(alloc, around, first, argument)?;
             apply(alloc, *function, inner)
         }
         Expr::Mine(_, arguments) => {
@@ -87,12 +80,12 @@ pub fn annotation<'s, 'a>(
             all_owned(alloc, objects)
         }
         Expr::ClaimsObject(_, claim, object) => {
-            let front = annotation(alloc, around, first, claim)?;
-            let back = annotation(alloc, around, front.next, object)?;
+            let front = boxed(alloc, around, first, claim)?;
+            let back = boxed(alloc, around, front.next, object)?;
             claims_object(alloc, front, back)
         }
         Expr::Claims(_, claim, property) => {
-            let front = annotation(alloc, around, first, claim)?;
+            let front = boxed(alloc, around, first, claim)?;
             let back = conjuncts(alloc, around, front.next, property)?;
             claims(alloc, front, back)
         }
@@ -118,7 +111,7 @@ fn only<'s, 'a>(
 ) -> Result<Row, AllocError>
     ensures { IfOk result (λ r. row_of r ≡ only_typed (surroundings around.entry) first (view.exp x.now)) }
 {
-    let whole = annotation(alloc, around, first, x)?;
+    let whole = boxed(alloc, around, first, x)?;
     single(alloc, whole)
 }
 
@@ -134,8 +127,8 @@ fn row<'s, 'a>(
 {
     let mut so_far = Row::nothing(alloc, first);
     for x in all {
-        let one = annotation(alloc, around, so_far.next, x)?;
-        so_far = so_far.with(one)?;
+        let one = boxed(alloc, around, so_far.next, x)?;
+        so_far = so_far.with_boxed(one)?;
     }
     Ok(so_far)
 }
@@ -161,7 +154,7 @@ fn conjuncts<'s, 'a>(
             _ => only(alloc, around, first, x),
         },
         Expr::Status(_, left, _, Status::Closed) => {
-            let object = annotation(alloc, around, first, left)?;
+            let object = boxed(alloc, around, first, left)?;
             let closed = lists(alloc, object)?;
             single(alloc, closed)
         }
@@ -178,7 +171,7 @@ fn for_all_body<'q, 's, 'a>(
     first: u32,
     ty: DeclaredType,
     body: &'a Expr,
-) -> Result<TypedSpec, AllocError>
+) -> Result<BoxedSpec, AllocError>
     ensures { IfOk result (λ v. seen v ≡ for_all_typed (surroundings around.entry) (surroundings inside.entry) first ty (view.exp body.now)) }
 {
     match body {
@@ -186,12 +179,12 @@ fn for_all_body<'q, 's, 'a>(
         Expr::Binary(_, BinaryOperator::Implies, left, right) => {
             let start = plus(1, first)?;
             let object = owner(alloc, around, start, left)?;
-            let holds = annotation(alloc, inside, object.next, right)?;
+            let holds = boxed(alloc, inside, object.next, right)?;
             for_all(alloc, first, ty, object, holds)
         }
         _ => {
             let start = plus(1, first)?;
-            no_form(start, body)
+            no_form(alloc, start, body)
         }
     }
 }
@@ -205,7 +198,7 @@ fn exists_body<'q, 's, 'a>(
     first: u32,
     ty: DeclaredType,
     body: &'a Expr,
-) -> Result<TypedSpec, AllocError>
+) -> Result<BoxedSpec, AllocError>
     ensures { IfOk result (λ v. seen v ≡ exists_body_typed (surroundings around.entry) (surroundings inside.entry) first ty (view.exp body.now)) }
 {
     match body {
@@ -215,31 +208,28 @@ fn exists_body<'q, 's, 'a>(
                 let start = plus(1, first)?;
                 let object = owner_first(alloc, around, start, left)?;
                 let front = others(alloc, inside, start, left)?;
-                let last = annotation(alloc, inside, front.next, right)?;
-                let all = front.with(last)?;
+                let last = boxed(alloc, inside, front.next, right)?;
+                let all = front.with_boxed(last)?;
                 exists(alloc, first, ty, object, all)
             }
             _ => {
                 let start = plus(1, first)?;
-                no_form(start, body)
+                no_form(alloc, start, body)
             }
         },
         _ => {
             let start = plus(1, first)?;
-            no_form(start, body)
+            no_form(alloc, start, body)
         }
     }
 }
 
 /// What isn't of its form.
-fn no_form(first: u32, x: &Expr) -> Result<TypedSpec, AllocError>
+fn no_form(alloc: Global, first: u32, x: &Expr) -> Result<BoxedSpec, AllocError>
     ensures { IfOk result (λ v. seen v ≡ no_form_typed first (view.exp x.now)) }
 {
     let next = behind(first, x)?;
-    Ok(TypedSpec {
-        spec: Spec::Null,
-        next,
-    })
+    BoxedSpec::new(alloc, Spec::Null, next)
 }
 
 /// The object of a membership.
@@ -249,16 +239,16 @@ fn owner<'s, 'a>(
     around: Around<'s, 'a>,
     first: u32,
     x: &'a Expr,
-) -> Result<TypedSpec, AllocError>
+) -> Result<BoxedSpec, AllocError>
     ensures { IfOk result (λ v. seen v ≡ owner_typed (surroundings around.entry) first (view.exp x.now)) }
 {
     match x {
         Expr::Group(_, inner) => owner(alloc, around, first, inner),
         Expr::Binary(_, BinaryOperator::In, left, right) => {
             let start = behind(first, left)?;
-            annotation(alloc, around, start, right)
+            boxed(alloc, around, start, right)
         }
-        _ => no_form(first, x),
+        _ => no_form(alloc, first, x),
     }
 }
 
@@ -269,8 +259,8 @@ fn owner_first<'s, 'a>(
     around: Around<'s, 'a>,
     first: u32,
     x: &'a Expr,
-) -> Result<Spec, AllocError>
-    ensures { IfOk result (λ v. said v ≡ spec.owner_first (surroundings around.entry) first (view.exp x.now)) }
+) -> Result<Box<Spec>, AllocError>
+    ensures { IfOk result (λ v. said v.value ≡ spec.owner_first (surroundings around.entry) first (view.exp x.now)) }
 {
     match x {
         Expr::Group(_, inner) => {
@@ -279,11 +269,14 @@ fn owner_first<'s, 'a>(
         }
         Expr::Binary(_, BinaryOperator::In, left, right) => {
             let start = behind(first, left)?;
-            let object = annotation(alloc, around, start, right)?;
+            let object = boxed(alloc, around, start, right)?;
             Ok(object.spec)
         }
         Expr::Binary(_, BinaryOperator::And, left, _) => owner_first(alloc, around, first, left),
-        _ => Ok(Spec::Null),
+        _ => {
+            let null = Box::new(alloc, Spec::Null)?;
+            Ok(null)
+        }
     }
 }
 
@@ -301,8 +294,8 @@ fn others<'s, 'a>(
         Expr::Binary(_, operator, left, right) => match operator {
             BinaryOperator::And => {
                 let front = others(alloc, around, first, left)?;
-                let last = annotation(alloc, around, front.next, right)?;
-                front.with(last)
+                let last = boxed(alloc, around, front.next, right)?;
+                front.with_boxed(last)
             }
             _ => {
                 let next = behind(first, x)?;
@@ -314,6 +307,19 @@ fn others<'s, 'a>(
             Ok(Row::nothing(alloc, next))
         }
     }
+}
+
+/// An expression whose first quantified formula has this number.
+pub fn annotation<'s, 'a>(
+    alloc: Global,
+    around: Around<'s, 'a>,
+    first: u32,
+    x: &'a Expr,
+) -> Result<TypedSpec, AllocError>
+    ensures { IfOk result (λ v. unboxed v ≡ typed (surroundings around.entry) first (view.exp x.now)) }
+{
+    let whole = boxed(alloc, around, first, x)?;
+    Ok(whole.taken_out())
 }
 
 /// The operands of `&&` at the top of an expression, and the number behind them.

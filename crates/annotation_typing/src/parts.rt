@@ -10,7 +10,7 @@ ghost use Rattle.typed_program.specs.Numbers as numbers;
 ghost use Rattle.typed_program.specs.Trees as t;
 ghost use Rattle.typed_program.specs.Views.{spec as said};
 ghost use Rattle.annotation_typing.specs.Typing.{alone, one, two, three};
-ghost use Rattle.annotation_typing.specs.Views.{annotation as seen};
+ghost use Rattle.annotation_typing.specs.Views.{annotation, boxed as seen};
 
 use crate::annotations::TypedSpec;
 use c_syntax::expressions::{Expr, Identifier, ValueType};
@@ -21,6 +21,35 @@ use expr_rules::context::{Context, Quantified, Scope};
 use expr_rules::expressions::expression;
 use method::program::{Comparison, Operator, Spec};
 use std::alloc::{AllocError, Global};
+
+/// An expression as it is typed, in a box: one that is held where a later one fails is dropped by one call.
+#[derive(Drop)]
+pub struct BoxedSpec {
+    pub spec: Box<Spec>,
+    pub next: u32,
+}
+
+impl BoxedSpec {
+    /// This expression, behind which the next quantified formula has this number.
+    pub fn new(alloc: Global, spec: Spec, next: u32) -> Result<BoxedSpec, AllocError>
+        ensures { IfOk result (λ v. seen v ≡ alone (said spec) next) }
+    {
+        Ok(BoxedSpec {
+            spec: Box::new(alloc, spec)?,
+            next,
+        })
+    }
+
+    /// The expression without its box.
+    pub fn taken_out(self) -> TypedSpec
+        ensures { annotation result ≡ seen self }
+    {
+        TypedSpec {
+            spec: Box::into_inner(self.spec),
+            next: self.next,
+        }
+    }
+}
 
 /// A word.
 pub fn word(constant: Constant) -> Spec
@@ -55,12 +84,12 @@ pub fn name(
     around: Around<'_, '_>,
     first: u32,
     known: &Identifier,
-) -> Result<TypedSpec, AllocError>
+) -> Result<BoxedSpec, AllocError>
     ensures { IfOk result (λ v. seen v ≡ alone (spec.name (numbers.meaning (surroundings around.entry) (view.id known.now))) first) }
 {
     let means = meaning(around, known)?;
     let spec = named(alloc, means)?;
-    Ok(TypedSpec { spec, next: first })
+    BoxedSpec::new(alloc, spec, first)
 }
 
 /// A field of an object.
@@ -69,61 +98,59 @@ pub fn field<'s, 'a>(
     around: Around<'s, 'a>,
     left: &'a Expr,
     named: &Identifier,
-    inner: TypedSpec,
-) -> Result<TypedSpec, AllocError>
+    inner: BoxedSpec,
+) -> Result<BoxedSpec, AllocError>
     ensures { IfOk result (λ v. seen v ≡ one (λ w. t.SField w (numbers.field_at (surroundings around.entry) (view.exp left.now) (view.id named.now))) (seen inner)) }
 {
     let owner = expression(around.context, left);
     let number = field_of_kind(around.context.scope.declarations, owner.kind, named)?;
-    let next = inner.next;
-    let object = Box::new(alloc, inner.spec)?;
-    Ok(TypedSpec {
-        spec: Spec::Field(object, number),
-        next,
-    })
+    BoxedSpec::new(alloc, Spec::Field(inner.spec, number), inner.next)
 }
 
 /// A word about an object's status.
-pub fn status(alloc: Global, which: Status, inner: TypedSpec) -> Result<TypedSpec, AllocError>
-    ensures { IfOk result (λ v. seen v ≡ one (spec.status which) (seen inner)) }
+fn told(which: Status, object: Box<Spec>) -> Spec
+    ensures { said result ≡ spec.status which (said object.value) }
 {
-    let next = inner.next;
-    let object = Box::new(alloc, inner.spec)?;
-    let spec = match which {
+    match which {
         Status::Closed => Spec::Closed(object),
         Status::Owner => Spec::Owner(object),
         Status::ClaimCount => Spec::ClaimCount(object),
-    };
-    Ok(TypedSpec { spec, next })
+    }
+}
+
+/// A word about an object's status.
+pub fn status(alloc: Global, which: Status, inner: BoxedSpec) -> Result<BoxedSpec, AllocError>
+    ensures { IfOk result (λ v. seen v ≡ one (spec.status which) (seen inner)) }
+{
+    BoxedSpec::new(alloc, told(which, inner.spec), inner.next)
 }
 
 /// That an object is closed, as a conjunct of a property.
-pub fn lists(alloc: Global, inner: TypedSpec) -> Result<TypedSpec, AllocError>
+pub fn lists(alloc: Global, inner: BoxedSpec) -> Result<BoxedSpec, AllocError>
     ensures { IfOk result (λ v. seen v ≡ one t.SLists (seen inner)) }
 {
-    let next = inner.next;
-    let object = Box::new(alloc, inner.spec)?;
-    Ok(TypedSpec {
-        spec: Spec::Lists(object),
-        next,
-    })
+    BoxedSpec::new(alloc, Spec::Lists(inner.spec), inner.next)
+}
+
+/// An operator in front of an operand.
+fn negation(operator: UnaryOperator, operand: Box<Spec>) -> Spec
+    ensures { said result ≡ spec.negation operator (said operand.value) }
+{
+    match operator {
+        UnaryOperator::Not => Spec::Not(operand),
+        UnaryOperator::Negate => Spec::Negate(operand),
+    }
 }
 
 /// An operator in front of an operand.
 pub fn unary(
     alloc: Global,
     operator: UnaryOperator,
-    inner: TypedSpec,
-) -> Result<TypedSpec, AllocError>
+    inner: BoxedSpec,
+) -> Result<BoxedSpec, AllocError>
     ensures { IfOk result (λ v. seen v ≡ one (spec.negation operator) (seen inner)) }
 {
-    let next = inner.next;
-    let operand = Box::new(alloc, inner.spec)?;
-    let spec = match operator {
-        UnaryOperator::Not => Spec::Not(operand),
-        UnaryOperator::Negate => Spec::Negate(operand),
-    };
-    Ok(TypedSpec { spec, next })
+    BoxedSpec::new(alloc, negation(operator, inner.spec), inner.next)
 }
 
 /// A word with one argument.
@@ -144,16 +171,11 @@ fn applied(function: SpecFunction, argument: Box<Spec>) -> Spec
 pub fn apply(
     alloc: Global,
     function: SpecFunction,
-    inner: TypedSpec,
-) -> Result<TypedSpec, AllocError>
+    inner: BoxedSpec,
+) -> Result<BoxedSpec, AllocError>
     ensures { IfOk result (λ v. seen v ≡ one (spec.applied function) (seen inner)) }
 {
-    let next = inner.next;
-    let argument = Box::new(alloc, inner.spec)?;
-    Ok(TypedSpec {
-        spec: applied(function, argument),
-        next,
-    })
+    BoxedSpec::new(alloc, applied(function, inner.spec), inner.next)
 }
 
 /// An operator between its operands.
@@ -184,54 +206,43 @@ fn joined(operator: BinaryOperator, left: Box<Spec>, right: Box<Spec>) -> Spec
 pub fn binary(
     alloc: Global,
     operator: BinaryOperator,
-    left: TypedSpec,
-    right: TypedSpec,
-) -> Result<TypedSpec, AllocError>
+    left: BoxedSpec,
+    right: BoxedSpec,
+) -> Result<BoxedSpec, AllocError>
     ensures { IfOk result (λ v. seen v ≡ two (spec.joined (binary_form operator)) (seen left) (seen right)) }
 {
-    let next = right.next;
-    let first = Box::new(alloc, left.spec)?;
-    let second = Box::new(alloc, right.spec)?;
-    Ok(TypedSpec {
-        spec: joined(operator, first, second),
-        next,
-    })
+    BoxedSpec::new(alloc, joined(operator, left.spec, right.spec), right.next)
 }
 
 /// `?:` between its test and branches.
 pub fn conditional(
     alloc: Global,
-    test: TypedSpec,
-    left: TypedSpec,
-    right: TypedSpec,
-) -> Result<TypedSpec, AllocError>
+    test: BoxedSpec,
+    left: BoxedSpec,
+    right: BoxedSpec,
+) -> Result<BoxedSpec, AllocError>
     ensures { IfOk result (λ v. seen v ≡ three t.SChoose (seen test) (seen left) (seen right)) }
 {
-    let next = right.next;
-    let condition = Box::new(alloc, test.spec)?;
-    let first = Box::new(alloc, left.spec)?;
-    let second = Box::new(alloc, right.spec)?;
-    Ok(TypedSpec {
-        spec: Spec::Choose(condition, first, second),
-        next,
-    })
+    BoxedSpec::new(
+        alloc,
+        Spec::Choose(test.spec, left.spec, right.spec),
+        right.next,
+    )
 }
 
 /// That a claim claims an object.
 pub fn claims_object(
     alloc: Global,
-    claim: TypedSpec,
-    object: TypedSpec,
-) -> Result<TypedSpec, AllocError>
+    claim: BoxedSpec,
+    object: BoxedSpec,
+) -> Result<BoxedSpec, AllocError>
     ensures { IfOk result (λ v. seen v ≡ two t.SClaimsObject (seen claim) (seen object)) }
 {
-    let next = object.next;
-    let first = Box::new(alloc, claim.spec)?;
-    let second = Box::new(alloc, object.spec)?;
-    Ok(TypedSpec {
-        spec: Spec::ClaimsObject(first, second),
-        next,
-    })
+    BoxedSpec::new(
+        alloc,
+        Spec::ClaimsObject(claim.spec, object.spec),
+        object.next,
+    )
 }
 
 /// What stands around the body of a quantifier.

@@ -4,9 +4,10 @@ ghost use Rattle.std.specs.Prelude.{◌≡◌, IfOk};
 ghost use Rattle.typed_program.specs.Trees as t;
 ghost use Rattle.typed_program.specs.Views.{spec as said, in_row};
 ghost use Rattle.annotation_typing.specs.Typing.{two, nothing as none, single as alone_in, pushed as with_last, appended as both, mine_typed, member as is_member, claims_typed, exists_typed};
-ghost use Rattle.annotation_typing.specs.Views.{annotation as seen, row_of};
+ghost use Rattle.annotation_typing.specs.Views.{annotation, boxed as seen, row_of};
 
 use crate::annotations::TypedSpec;
+use crate::parts::BoxedSpec;
 use method::program::{DeclaredType, Spec};
 use std::alloc::{AllocError, Global};
 
@@ -30,12 +31,19 @@ impl Row {
 
     /// With one more.
     pub fn with(self, last: TypedSpec) -> Result<Row, AllocError>
-        ensures { IfOk result (λ r. row_of r ≡ with_last (row_of self) (seen last)) }
+        ensures { IfOk result (λ r. row_of r ≡ with_last (row_of self) (annotation last)) }
     {
         let mut specs = self.specs;
         let next = last.next;
         specs.push(last.spec)?;
         Ok(Row { specs, next })
+    }
+
+    /// With one more, which stands in a box.
+    pub fn with_boxed(self, last: BoxedSpec) -> Result<Row, AllocError>
+        ensures { IfOk result (λ r. row_of r ≡ with_last (row_of self) (seen last)) }
+    {
+        self.with(last.taken_out())
     }
 
     /// With those of a row behind it.
@@ -51,48 +59,45 @@ impl Row {
 }
 
 /// One expression.
-pub fn single(alloc: Global, one: TypedSpec) -> Result<Row, AllocError>
+pub fn single(alloc: Global, one: BoxedSpec) -> Result<Row, AllocError>
     ensures { IfOk result (λ r. row_of r ≡ alone_in (seen one)) }
 {
-    Row::nothing(alloc, 0).with(one)
+    Row::nothing(alloc, 0).with_boxed(one)
 }
 
 /// That an object is owned by `\this`.
-fn member(alloc: Global, object: Spec) -> Result<Spec, AllocError>
-    ensures { IfOk result (λ s. said s ≡ is_member (said object)) }
+fn member(alloc: Global, object: Spec) -> Result<Box<Spec>, AllocError>
+    ensures { IfOk result (λ s. said s.value ≡ is_member (said object)) }
 {
     let first = Box::new(alloc, object)?;
     let second = Box::new(alloc, Spec::This)?;
-    Ok(Spec::Member(first, second))
+    let whole = Box::new(alloc, Spec::Member(first, second))?;
+    Ok(whole)
 }
 
 /// That both hold.
-fn both_hold(alloc: Global, left: Spec, right: Spec) -> Result<Spec, AllocError>
-    ensures { IfOk result (λ s. said s ≡ t.SAnd (said left) (said right)) }
+fn both_hold(alloc: Global, left: Box<Spec>, right: Box<Spec>) -> Result<Box<Spec>, AllocError>
+    ensures { IfOk result (λ s. said s.value ≡ t.SAnd (said left.value) (said right.value)) }
 {
-    let first = Box::new(alloc, left)?;
-    let second = Box::new(alloc, right)?;
-    Ok(Spec::And(first, second))
+    let whole = Box::new(alloc, Spec::And(left, right))?;
+    Ok(whole)
 }
 
 /// `\mine` of these.
-pub fn all_owned(alloc: Global, arguments: Row) -> Result<TypedSpec, AllocError>
+pub fn all_owned(alloc: Global, arguments: Row) -> Result<BoxedSpec, AllocError>
     ensures { IfOk result (λ v. seen v ≡ mine_typed (row_of arguments)) }
 {
     let next = arguments.next;
     let mut rest = arguments.specs;
     let Some(last) = rest.pop() else {
-        return Ok(TypedSpec {
-            spec: Spec::Truth(true),
-            next,
-        });
+        return BoxedSpec::new(alloc, Spec::Truth(true), next);
     };
     let mut spec = member(alloc, last)?;
     while let Some(object) = rest.pop() {
         let before = member(alloc, object)?;
         spec = both_hold(alloc, before, spec)?;
     }
-    Ok(TypedSpec { spec, next })
+    Ok(BoxedSpec { spec, next })
 }
 
 /// `\claims` of a claim and these conjuncts.
@@ -103,15 +108,11 @@ fn claims_of(claim: Box<Spec>, conjuncts: Vec<Spec>) -> Spec
 }
 
 /// `\claims` of a claim and these conjuncts.
-pub fn claims(alloc: Global, claim: TypedSpec, conjuncts: Row) -> Result<TypedSpec, AllocError>
+pub fn claims(alloc: Global, claim: BoxedSpec, conjuncts: Row) -> Result<BoxedSpec, AllocError>
     ensures { IfOk result (λ v. seen v ≡ claims_typed (seen claim) (row_of conjuncts)) }
 {
     let next = conjuncts.next;
-    let first = Box::new(alloc, claim.spec)?;
-    Ok(TypedSpec {
-        spec: claims_of(first, conjuncts.specs),
-        next,
-    })
+    BoxedSpec::new(alloc, claims_of(claim.spec, conjuncts.specs), next)
 }
 
 /// `\forall` over the objects that an object owns, as what holds of each says.
@@ -119,18 +120,16 @@ pub fn for_all(
     alloc: Global,
     number: u32,
     ty: DeclaredType,
-    owner: TypedSpec,
-    holds: TypedSpec,
-) -> Result<TypedSpec, AllocError>
+    owner: BoxedSpec,
+    holds: BoxedSpec,
+) -> Result<BoxedSpec, AllocError>
     ensures { IfOk result (λ v. seen v ≡ two (t.SForAll number ty) (seen owner) (seen holds)) }
 {
-    let next = holds.next;
-    let object = Box::new(alloc, owner.spec)?;
-    let body = Box::new(alloc, holds.spec)?;
-    Ok(TypedSpec {
-        spec: Spec::ForAll(number, ty, object, body),
-        next,
-    })
+    BoxedSpec::new(
+        alloc,
+        Spec::ForAll(number, ty, owner.spec, holds.spec),
+        holds.next,
+    )
 }
 
 /// `\exists` over the objects that an object owns, with these conjuncts.
@@ -145,15 +144,11 @@ pub fn exists(
     alloc: Global,
     number: u32,
     ty: DeclaredType,
-    owner: Spec,
+    owner: Box<Spec>,
     conjuncts: Row,
-) -> Result<TypedSpec, AllocError>
-    ensures { IfOk result (λ v. seen v ≡ exists_typed number ty (said owner) (row_of conjuncts)) }
+) -> Result<BoxedSpec, AllocError>
+    ensures { IfOk result (λ v. seen v ≡ exists_typed number ty (said owner.value) (row_of conjuncts)) }
 {
     let next = conjuncts.next;
-    let object = Box::new(alloc, owner)?;
-    Ok(TypedSpec {
-        spec: exists_of(number, ty, object, conjuncts.specs),
-        next,
-    })
+    BoxedSpec::new(alloc, exists_of(number, ty, owner, conjuncts.specs), next)
 }

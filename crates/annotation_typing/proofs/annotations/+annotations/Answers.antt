@@ -6,18 +6,18 @@ use Rattle.c_syntax.specs.Views.{exp, exps}
 use Rattle.code_typing.specs.Views.{around}
 use Rattle.typed_program.specs.Annotations.{owner_first}
 use Rattle.annotation_typing.specs.Typing.{arguments_typed, mine_typed, conjuncts_typed, exists_body_typed, others_typed}
-use Rattle.annotation_typing.specs.Views.{Typed, Several, typed, annotation as seen, row_of}
+use Rattle.annotation_typing.specs.Views.{Typed, Several, typed, boxed as seen, row_of}
 use Rattle.annotation_typing.proofs.Laws.{no_arguments, mine_law, arguments_law, claims_law, conjuncts_law, others_law, exists_law}
 use Rattle.annotation_typing.proofs.Steps.{told, operand, of_form, claimed, in_front, with_one, some_hold}
 use Rattle.expr_rules.proofs.Rows.{mine, take_at, take_all}
 use Rattle.annotation_typing.proofs.Vectors.{mine_parts, item_parts}
 use Rattle.annotation_typing.proofs.annotations.+annotations.Goals as goal
 
-pub annotation-row-requires : goal.annotation-row-requires
-annotation-row-requires t c = let m = mine_parts c.args.x.now c.in-Mine.field-0 c.in-Mine.arguments c.deref-in-Mine.result.now c.in-Mine.is c.deref-in-Mine.ensures.value in (omega (arith, c.decreases, m), tt)
+pub boxed-row-requires : goal.boxed-row-requires
+boxed-row-requires t c = let m = mine_parts c.args.x.now c.in-Mine.field-0 c.in-Mine.arguments c.deref-in-Mine.result.now c.in-Mine.is c.deref-in-Mine.ensures.value in (omega (arith, c.decreases, m), tt)
 
-pub annotation-returns-in_ok-objects-in-Mine : goal.annotation-returns-in_ok-objects-in-Mine
-annotation-returns-in_ok-objects-in-Mine t c =
+pub boxed-returns-in_ok-objects-in-Mine : goal.boxed-returns-in_ok-objects-in-Mine
+boxed-returns-in_ok-objects-in-Mine t c =
     let here = around c.args.around in
     let n = c.args.first in
     let s = c.in-Mine in
@@ -25,8 +25,8 @@ annotation-returns-in_ok-objects-in-Mine t c =
     told seen c.all_owned.result c.all_owned.ensures
     (ap mine_typed c.in_ok-objects-in-Mine.ensures ∙ (mine_law here n s.field-0 (exps all) ∙ ap (typed here n) (sym (mine c.args.x.now s.field-0 s.arguments all s.is c.deref-in-Mine.ensures.value))))
 
-pub row-annotation-requires : goal.row-annotation-requires
-row-annotation-requires t c = let m = item_parts c.args.all.now c.loop-x.x-index c.x-item.result c.loop-x-test.true c.x-item.is in (omega (arith, c.decreases, m), tt)
+pub row-boxed-requires : goal.row-boxed-requires
+row-boxed-requires t c = let m = item_parts c.args.all.now c.loop-x.x-index c.x-item.result c.loop-x-test.true c.x-item.is in (omega (arith, c.decreases, m), tt)
 
 pub row-loop-x-init : goal.row-loop-x-init
 row-loop-x-init t c = c.nothing-so_far.ensures ∙ no_arguments (around c.args.around) c.args.first
@@ -44,8 +44,8 @@ row-loop-x-preserved t c =
     c.in_ok-so_far.ensures ∙ (with_one c.loop-x.invariant (c.in_ok-one.ensures ∙ ap (λ i. typed here i y) (ap (λ (k : Several). k.next) c.loop-x.invariant))
     ∙ (arguments_law here n done y ∙ ap (arguments_typed here n) (sym (take_at exp c.args.all.now c.loop-x.x-index c.x-item.result c.loop-x-test.true c.x-item.is))))
 
-pub annotation-returns-in_ok-back-in-Claims : goal.annotation-returns-in_ok-back-in-Claims
-annotation-returns-in_ok-back-in-Claims t c =
+pub boxed-returns-in_ok-back-in-Claims : goal.boxed-returns-in_ok-back-in-Claims
+boxed-returns-in_ok-back-in-Claims t c =
     let here = around c.args.around in
     let n = c.args.first in
     let s = c.in-Claims in
@@ -72,7 +72,7 @@ others-returns-in_ok-last-in-And t c =
     let s = c.in-Binary in
     let first = operand (others_typed here) n n s.left.value _ c.in_ok-front-in-And.ensures c.deref.ensures refl in
     let second = operand (typed here) _ _ s.right.value _ c.in_ok-last-in-And.ensures c.deref-in-And.ensures (ap (λ (k : Several). k.next) first) in
-    told row_of c.with.result c.with.ensures
+    told row_of c.with_boxed.result c.with_boxed.ensures
     (of_form (others_typed here n) c.args.x.now (e.Binary s.field-0 op.And (exp s.left.value) (exp s.right.value)) (ap exp s.is ∙ ap (λ o. e.Binary s.field-0 o (exp s.left.value) (exp s.right.value)) c.in-And.is)
     (with_one first second ∙ others_law here n s.field-0 (exp s.left.value) (exp s.right.value)))
 

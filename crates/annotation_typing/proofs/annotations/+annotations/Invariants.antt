@@ -7,8 +7,8 @@ use Rattle.annotation_typing.specs.Typing.{arguments_typed}
 use Rattle.annotation_typing.specs.Views.{row_of}
 use Rattle.annotation_typing.proofs.annotations.+annotations.Given as goal
 
-abbrev pub decreases-annotation : goal.decreases-annotation
-decreases-annotation l = 3 * parts (exp l.x.now)
+abbrev pub decreases-boxed : goal.decreases-boxed
+decreases-boxed l = 3 * parts (exp l.x.now)
 
 abbrev pub decreases-only : goal.decreases-only
 decreases-only l = 1 + 3 * parts (exp l.x.now)

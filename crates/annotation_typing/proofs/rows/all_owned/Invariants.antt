@@ -6,7 +6,7 @@ use Rattle.annotation_typing.proofs.Specs.{and_onto}
 use Rattle.annotation_typing.proofs.rows.all_owned.Given as goal
 
 abbrev pub invariant-loop-object : goal.invariant-loop-object
-invariant-loop-object l = all_hold (in_row (map member (specs l.fn.arguments.specs.items))) ≡ and_onto (specs l.rest.items) (spec l.spec)
+invariant-loop-object l = all_hold (in_row (map member (specs l.fn.arguments.specs.items))) ≡ and_onto (specs l.rest.items) (spec l.spec.value)
 
 abbrev pub decreases-loop-object : goal.decreases-loop-object
 decreases-loop-object l = vec_len l.rest
