@@ -14,7 +14,6 @@ use object_types::references::Ref;
 use spec_eval::env::EvalFault;
 use spec_eval::eval::{entry_holds, holds_of};
 
-
 /// The type number of claims.
 const CLAIMS: u32 = 2;
 

@@ -100,4 +100,3 @@ impl<T: Drop> Pool<T> {
         self.items.truncate(mark.length);
     }
 }
-

@@ -10,4 +10,3 @@ pub mod refusal;
 pub mod report;
 
 pub use main_call::vcc_main;
-
