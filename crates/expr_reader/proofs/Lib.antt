@@ -8,3 +8,5 @@ pub mod Vectors
 pub mod Climbs
 pub mod Outcomes
 pub mod Commas
+pub mod Boxes
+pub mod Words

@@ -293,13 +293,11 @@ postfix_plus m room ts a b = let z : suc room ≡ room + 1 = omega arith in pref
 
 -- ---- owned sets
 
-pub set_read : (room : ℕ) (ts : List Lexeme) → room ≢ 0 → reads language room g.OwnedSet ts ≡ on language (reads language (room - 1) g.SetStart ts) (λ l k rest. climbed (room - 1 + 1) (room - 1) l k rest)
-unfolding reads read_rule read
-set_read zero ts h = absurd (h refl)
-set_read (suc room) ts h =
-    let a : suc room - 1 ≡ room = omega arith in
-    let b : suc room ≡ suc room - 1 + 1 = omega arith in
-    go (reads language room g.SetStart ts) ∙ ap (λ i. on language (reads language room g.SetStart ts) (λ l k rest. climbed i room l k rest)) b ∙ ap (λ i. on language (reads language i g.SetStart ts) (λ l k rest. climbed (suc room - 1 + 1) i l k rest)) (sym a)
+pub set_read : (room : ℕ) (ts : List Lexeme) → rule_at room g.owned_set ts ≡ on language (reads language room g.SetStart ts) (λ l k rest. climbed (room + 1) room l k rest)
+unfolding read_rule read
+set_read room ts =
+    let b : suc room ≡ room + 1 = omega arith in
+    go (reads language room g.SetStart ts) ∙ ap (λ i. on language (reads language room g.SetStart ts) (λ l k rest. climbed i room l k rest)) b
   where
     go : (out : Out language Exp) → on language (on language out (λ b i rest. Ok (b, i, rest))) (λ l k rest. climbed (suc room) room l k rest) ≡ on language out (λ l k rest. climbed (suc room) room l k rest)
     go (Ok p) = refl

@@ -95,8 +95,8 @@ conjunction_read room ts = chain_read g.memberships g.and_membership room ts
 pub memberships_read : (room : ℕ) (ts : List Lexeme) → rule_at room g.memberships ts ≡ on language (rule_at room g.first_membership ts) (λ l k rest. linked (room + 1) room (behind j.In) l k rest)
 memberships_read room ts = chain_read g.first_membership g.in_set room ts
 
-pub body_read : (room : ℕ) (ts : List Lexeme) → room ≢ 0 → reads language room g.SetBody ts ≡ on language (rule_at (room - 1) g.set_conjunction ts) (λ l k rest. linked (room - 1 + 1) (room - 1) (behind j.Implies) l k rest)
-body_read room ts h = reads_rule room g.SetBody ts h ∙ chain_read g.set_conjunction g.implies_body (room - 1) ts
+pub body_read : (room : ℕ) (ts : List Lexeme) → rule_at room g.set_body ts ≡ on language (rule_at room g.set_conjunction ts) (λ l k rest. linked (room + 1) room (behind j.Implies) l k rest)
+body_read room ts = chain_read g.set_conjunction g.implies_body room ts
 
 pub element_read : (room : ℕ) (ts : List Lexeme) → room ≢ 0 → reads language room g.Element ts ≡ on language (rule_at (room - 1) g.element_start ts) (λ l k rest. linked (room - 1 + 1) (room - 1) (arrow g.InSpec) l k rest)
 element_read room ts h = reads_rule room g.Element ts h ∙ chain_read g.element_start g.spec_arrow (room - 1) ts

@@ -4,3 +4,5 @@ pub mod Forms
 pub mod Joints
 pub mod Suffixes
 pub mod Lists
+pub mod Operands
+pub mod Types

@@ -12,31 +12,30 @@ ghost use Rattle.expr_reader.specs.Levels.{mode_of, tier_of, level, link, linked
 ghost use Rattle.expr_reader.specs.Forms as forms;
 ghost use Rattle.expr_reader.specs.Joints as joints;
 ghost use Rattle.expr_reader.specs.Lists.{behind_comma};
+ghost use Rattle.expr_reader.specs.Operands as operands;
 ghost use Rattle.expr_reader.specs.Reading.{Gives, lexemes, part, rule_at, extended, entered};
 
 use crate::arrows::{arrows, climb, first_arrow};
 use crate::forms::{
     Form, Pair, argument_tier, form_at, joined, least, mine_of, second_tier, set_form_at,
-    word_of_function, word_of_pair, word_of_quantifier,
 };
 use crate::joints::{Joint, least_behind, next_joins, quantifier_at};
-use crate::leaves::{constant, named, null, number};
+use crate::leaves::{constant, named, null, number, take_function, take_pair, take_quantifier};
 use crate::levels::{Mode, Tier, below, is_link, is_prefix, operator_at, right, top};
 use crate::memory::{add, boxed, single};
+use crate::operands::{Operand, behind};
 use crate::reading::{Parsed, ReadFault, Reading, fits};
 use crate::tokens::{
     next_is, next_is_key, next_is_name, next_is_number, next_is_spec, take, take_name,
     take_operator, take_spec, take_unary,
 };
-use crate::types::gtype;
+use crate::types::boxed_gtype;
 use c_syntax::expressions::Expr;
 use c_syntax::token::{Keyword, Sign, SpecWord, Token};
 use c_syntax::tree::{BinaryOperator, Quantifier, SpecFunction, UnaryOperator};
 use std::alloc::Global;
 
 /// An expression of this level, no higher than room.
-#[cycle(expressions)]
-#[tactic(auto, unfolding(ebnf::specs::Reading::reads))]
 pub fn expression<'a>(
     alloc: Global,
     mode: Mode,
@@ -48,10 +47,7 @@ pub fn expression<'a>(
     ensures gives { Gives exp result (reads language room (level mode tier) (lexemes tokens.now)) }
     ensures low { IfOk result (λ x. x.height ≤ room) }
 {
-    if room == 0 {
-        return Err(ReadFault::TooDeep(tokens));
-    }
-    on_level(alloc, mode, tier, room - 1, tokens)
+    unboxed_operand(alloc, Operand::Level(mode, tier), room, tokens)
 }
 
 /// An expression of this level, whose parts have room for so much height.
@@ -117,14 +113,22 @@ fn one_link<'a>(
     ensures gives { Gives exp result (levels.one_link room (link (mode_of mode) (tier_of tier)) (exp left.entry.value) left.entry.height (lexemes left.entry.rest.now)) }
     ensures low { IfOk result (λ x. x.height ≤ room + 1) }
 {
+    let held = Parsed {
+        value: boxed(alloc, left.value)?,
+        height: left.height,
+        rest: left.rest,
+    };
     fits(left.height.max(1), room, left.rest)?;
     if next_is_spec(SpecWord::In, left.rest) {
         fits(2, room, left.rest)?;
-        return membership(alloc, room, left);
+        return operation(alloc, BinaryOperator::In, Operand::OwnedSet, room, held);
     }
     match operator_at(mode, tier, left.rest) {
-        None => conditional(alloc, mode, room, left),
-        Some(operator) => binary(alloc, mode, operator, room, left),
+        None => conditional(alloc, mode, room, held),
+        Some(operator) => {
+            let operand = Operand::Level(mode, right(operator));
+            operation(alloc, operator, operand, room, held)
+        }
     }
 }
 
@@ -135,23 +139,21 @@ fn conditional<'a>(
     alloc: Global,
     mode: Mode,
     room: u32,
-    left: Parsed<'a, Expr>,
+    left: Parsed<'a, Box<Expr>>,
 ) -> Reading<'a, Expr>
     requires room { room < 1000 }
     requires low { left.height ≤ room }
-    ensures gives { Gives exp result (joined (exp left.entry.value) left.entry.height (part room (levels.conditional (mode_of mode)) (lexemes left.entry.rest.now))) }
+    ensures gives { Gives exp result (joined (exp left.entry.value.value) left.entry.height (part room (levels.conditional (mode_of mode)) (lexemes left.entry.rest.now))) }
     ensures low { IfOk result (λ x. x.height ≤ room + 1) }
 {
-    let condition = boxed(alloc, left.value)?;
+    let choice = Operand::Level(mode, Tier::Choice);
     let question = take(Sign::Question, left.rest)?;
-    let yes = expression(alloc, mode, Tier::Choice, room, question.rest)?;
-    let first = boxed(alloc, yes.value)?;
+    let yes = operand(alloc, choice, room, question.rest)?;
     let colon = take(Sign::Colon, yes.rest)?;
-    let no = expression(alloc, mode, Tier::Choice, room, colon.rest)?;
-    let second = boxed(alloc, no.value)?;
+    let no = operand(alloc, choice, room, colon.rest)?;
     let height = left.height.max(yes.height).max(no.height) + 1;
     Ok(Parsed {
-        value: Expr::Conditional(question.value, condition, first, second),
+        value: Expr::Conditional(question.value, left.value, yes.value, no.value),
         height,
         rest: no.rest,
     })
@@ -160,49 +162,71 @@ fn conditional<'a>(
 /// An operator and what stands right of it.
 #[cycle(expressions)]
 #[tactic(auto, unfolding(ebnf::specs::Reading::read))]
-fn binary<'a>(
+fn operation<'a>(
     alloc: Global,
-    mode: Mode,
     operator: BinaryOperator,
+    right: Operand,
     room: u32,
-    left: Parsed<'a, Expr>,
+    left: Parsed<'a, Box<Expr>>,
 ) -> Reading<'a, Expr>
     requires room { room < 1000 }
     requires low { left.height ≤ room }
-    ensures gives { Gives exp result (joined (exp left.entry.value) left.entry.height (part room (levels.binary (mode_of mode) operator) (lexemes left.entry.rest.now))) }
+    ensures gives { Gives exp result (joined (exp left.entry.value.value) left.entry.height (part room (operands.operation operator right) (lexemes left.entry.rest.now))) }
     ensures low { IfOk result (λ x. x.height ≤ room + 1) }
 {
-    let first = boxed(alloc, left.value)?;
     let sign = take_operator(operator, left.rest)?;
-    let other = expression(alloc, mode, right(operator), room, sign.rest)?;
-    let second = boxed(alloc, other.value)?;
+    let other = operand(alloc, right, room, sign.rest)?;
     let height = left.height.max(other.height) + 1;
     Ok(Parsed {
-        value: Expr::Binary(sign.value, operator, first, second),
+        value: Expr::Binary(sign.value, operator, left.value, other.value),
         height,
         rest: other.rest,
     })
 }
 
-/// `\in` and an owned set.
+/// An operand, in a box.
 #[cycle(expressions)]
-#[tactic(auto, unfolding(ebnf::specs::Reading::read))]
-fn membership<'a>(alloc: Global, room: u32, left: Parsed<'a, Expr>) -> Reading<'a, Expr>
+fn operand<'a>(
+    alloc: Global,
+    operand: Operand,
+    room: u32,
+    tokens: &'a [Token<'a>],
+) -> Reading<'a, Box<Expr>>
     requires room { room < 1000 }
-    requires low { left.height ≤ room }
-    ensures gives { Gives exp result (joined (exp left.entry.value) left.entry.height (part room levels.membership (lexemes left.entry.rest.now))) }
-    ensures low { IfOk result (λ x. x.height ≤ room + 1) }
+    ensures gives { Gives (λ b. exp b.value) result (operands.outcome room operand (lexemes tokens.now)) }
+    ensures placed { Gives (λ b. exp b.value) result (part room (operands.at operand) (lexemes tokens.now)) }
+    ensures low { IfOk result (λ x. x.height ≤ room) }
 {
-    let member = boxed(alloc, left.value)?;
-    let word = take_spec(SpecWord::In, left.rest)?;
-    let set = owned_set(alloc, room, word.rest)?;
-    let owner = boxed(alloc, set.value)?;
-    let height = left.height.max(set.height) + 1;
+    let found = unboxed_operand(alloc, operand, room, tokens)?;
+    let value = boxed(alloc, found.value)?;
     Ok(Parsed {
-        value: Expr::Binary(word.value, BinaryOperator::In, member, owner),
-        height,
-        rest: set.rest,
+        value,
+        height: found.height,
+        rest: found.rest,
     })
+}
+
+/// An operand.
+#[cycle(expressions)]
+fn unboxed_operand<'a>(
+    alloc: Global,
+    operand: Operand,
+    room: u32,
+    tokens: &'a [Token<'a>],
+) -> Reading<'a, Expr>
+    requires room { room < 1000 }
+    ensures gives { Gives exp result (operands.outcome room operand (lexemes tokens.now)) }
+    ensures low { IfOk result (λ x. x.height ≤ room) }
+{
+    if room == 0 {
+        return Err(ReadFault::TooDeep(tokens));
+    }
+    match operand {
+        Operand::Level(mode, tier) => on_level(alloc, mode, tier, room - 1, tokens),
+        Operand::OwnedSet => owned_set(alloc, room - 1, tokens),
+        Operand::Membership => memberships(alloc, room - 1, tokens),
+        Operand::SetBody => set_body(alloc, room - 1, tokens),
+    }
 }
 
 /// An expression with `!` or `-` in front, or one with arrows behind.
@@ -239,13 +263,11 @@ fn unary<'a>(
     ensures low { IfOk result (λ x. x.height ≤ room + 1) }
 {
     let sign = take_unary(operator, tokens)?;
-    let operand = expression(alloc, mode, Tier::Prefix, room, sign.rest)?;
-    let height = operand.height + 1;
-    let held = boxed(alloc, operand.value)?;
+    let inner = operand(alloc, Operand::Level(mode, Tier::Prefix), room, sign.rest)?;
     Ok(Parsed {
-        value: Expr::Unary(sign.value, operator, held),
-        height,
-        rest: operand.rest,
+        value: Expr::Unary(sign.value, operator, inner.value),
+        height: inner.height + 1,
+        rest: inner.rest,
     })
 }
 
@@ -307,12 +329,11 @@ fn group<'a>(alloc: Global, mode: Mode, room: u32, tokens: &'a [Token<'a>]) -> R
     ensures low { IfOk result (λ x. x.height ≤ room + 1) }
 {
     let open = take(Sign::Open, tokens)?;
-    let inner = expression(alloc, mode, top(mode), room, open.rest)?;
-    let held = boxed(alloc, inner.value)?;
+    let inner = operand(alloc, Operand::Level(mode, top(mode)), room, open.rest)?;
     let close = take(Sign::Close, inner.rest)?;
     let height = height_in_brackets(inner.height);
     Ok(Parsed {
-        value: Expr::Group(open.value, held),
+        value: Expr::Group(open.value, inner.value),
         height,
         rest: close.rest,
     })
@@ -351,7 +372,10 @@ fn worded<'a>(alloc: Global, form: Form, room: u32, tokens: &'a [Token<'a>]) -> 
         Form::Function(function) => apply(alloc, function, room, tokens),
         Form::Mine => mine(alloc, room, tokens),
         Form::Pair(pair) => paired(alloc, pair, room, tokens),
-        Form::Quantifier(quantifier) => quantified(alloc, quantifier, room, tokens),
+        Form::Quantifier(quantifier) => {
+            let body = Operand::Level(Mode::Spec, Tier::Equivalence);
+            quantified(alloc, quantifier, body, room, tokens)
+        }
     }
 }
 
@@ -368,15 +392,14 @@ fn apply<'a>(
     ensures gives { Gives exp result (rule_at room (forms.apply function) (lexemes tokens.now)) }
     ensures low { IfOk result (λ x. x.height ≤ room + 1) }
 {
-    let word = take_spec(word_of_function(function), tokens)?;
+    let word = take_function(function, tokens)?;
     let open = take(Sign::Open, word.rest)?;
-    let argument = expression(alloc, Mode::Spec, argument_tier(function), room, open.rest)?;
-    let held = boxed(alloc, argument.value)?;
+    let level = Operand::Level(Mode::Spec, argument_tier(function));
+    let argument = operand(alloc, level, room, open.rest)?;
     let close = take(Sign::Close, argument.rest)?;
-    let height = argument.height + 1;
     Ok(Parsed {
-        value: Expr::Apply(word.value, function, held),
-        height,
+        value: Expr::Apply(word.value, function, argument.value),
+        height: argument.height + 1,
         rest: close.rest,
     })
 }
@@ -389,17 +412,21 @@ fn paired<'a>(alloc: Global, pair: Pair, room: u32, tokens: &'a [Token<'a>]) -> 
     ensures gives { Gives exp result (rule_at room (forms.paired pair) (lexemes tokens.now)) }
     ensures low { IfOk result (λ x. x.height ≤ room + 1) }
 {
-    let word = take_spec(word_of_pair(pair), tokens)?;
+    let word = take_pair(pair, tokens)?;
     let open = take(Sign::Open, word.rest)?;
-    let first = expression(alloc, Mode::Spec, Tier::Choice, room, open.rest)?;
-    let left = boxed(alloc, first.value)?;
+    let first = operand(
+        alloc,
+        Operand::Level(Mode::Spec, Tier::Choice),
+        room,
+        open.rest,
+    )?;
     let comma = take(Sign::Comma, first.rest)?;
-    let second = expression(alloc, Mode::Spec, second_tier(pair), room, comma.rest)?;
-    let right = boxed(alloc, second.value)?;
+    let level = Operand::Level(Mode::Spec, second_tier(pair));
+    let second = operand(alloc, level, room, comma.rest)?;
     let close = take(Sign::Close, second.rest)?;
     let height = first.height.max(second.height) + 1;
     Ok(Parsed {
-        value: joined(pair, word.value, left, right),
+        value: joined(pair, word.value, first.value, second.value),
         height,
         rest: close.rest,
     })
@@ -424,32 +451,32 @@ fn mine<'a>(alloc: Global, room: u32, tokens: &'a [Token<'a>]) -> Reading<'a, Ex
     })
 }
 
-/// A quantifier, which reaches as far right as it can.
+/// A quantifier and its body.
 #[cycle(expressions)]
 #[tactic(auto, unfolding(ebnf::specs::Reading::read, ebnf::specs::Reading::read_rule))]
 fn quantified<'a>(
     alloc: Global,
     quantifier: Quantifier,
+    body: Operand,
     room: u32,
     tokens: &'a [Token<'a>],
 ) -> Reading<'a, Expr>
     requires room { room < 1000 }
     requires fits { 0 < room }
-    ensures gives { Gives exp result (rule_at room (forms.quantified quantifier) (lexemes tokens.now)) }
+    ensures gives { Gives exp result (rule_at room (operands.quantified quantifier body) (lexemes tokens.now)) }
     ensures low { IfOk result (λ x. x.height ≤ room + 1) }
 {
-    let word = take_spec(word_of_quantifier(quantifier), tokens)?;
-    let ty = gtype(alloc, room, word.rest)?;
+    let word = take_quantifier(quantifier, tokens)?;
+    let ty = boxed_gtype(alloc, room, word.rest)?;
     let name = take_name(alloc, 1, ty.rest)?;
     let semicolon = take(Sign::Semicolon, name.rest)?;
-    let body = expression(alloc, Mode::Spec, Tier::Equivalence, room, semicolon.rest)?;
-    let height = ty.height.max(name.height).max(body.height) + 1;
-    let held = boxed(alloc, body.value)?;
-    let (_, declared) = ty.value;
+    let held = operand(alloc, body, room, semicolon.rest)?;
+    let height = ty.height.max(name.height).max(held.height) + 1;
+    let (_, declared) = Box::into_inner(ty.value);
     Ok(Parsed {
-        value: Expr::Quantified(word.value, quantifier, declared, name.value, held),
+        value: Expr::Quantified(word.value, quantifier, declared, name.value, held.value),
         height,
-        rest: body.rest,
+        rest: held.rest,
     })
 }
 
@@ -466,7 +493,7 @@ pub fn list<'a>(
     ensures gives { Gives (λ v. exps v.items) result (part room (g.list (levels.whole mode tier)) (lexemes tokens.now)) }
     ensures low { IfOk result (λ x. x.height ≤ room) }
 {
-    let first = expression(alloc, mode, tier, room, tokens)?;
+    let first = unboxed_operand(alloc, Operand::Level(mode, tier), room, tokens)?;
     let mut found = Parsed {
         value: single(alloc, first.value)?,
         height: first.height,
@@ -496,7 +523,7 @@ fn one_more<'a>(
     let mut all = before.value;
     fits(1, room, before.rest)?;
     let comma = take(Sign::Comma, before.rest)?;
-    let next = expression(alloc, mode, tier, room, comma.rest)?;
+    let next = unboxed_operand(alloc, Operand::Level(mode, tier), room, comma.rest)?;
     add(&mut all, next.value)?;
     Ok(Parsed {
         value: all,
@@ -509,17 +536,14 @@ fn one_more<'a>(
 #[cycle(expressions)]
 fn owned_set<'a>(alloc: Global, room: u32, tokens: &'a [Token<'a>]) -> Reading<'a, Expr>
     requires room { room < 1000 }
-    ensures gives { Gives exp result (reads language room g.OwnedSet (lexemes tokens.now)) }
-    ensures low { IfOk result (λ x. x.height ≤ room) }
+    ensures gives { Gives exp result (rule_at room g.owned_set (lexemes tokens.now)) }
+    ensures low { IfOk result (λ x. x.height ≤ room + 1) }
 {
-    if room == 0 {
-        return Err(ReadFault::TooDeep(tokens));
-    }
-    let left = set_start(alloc, room - 1, tokens)?;
-    climb(alloc, room - 1, left)
+    let left = set_start(alloc, room, tokens)?;
+    climb(alloc, room, left)
 }
 
-/// What an owned set begins with.
+/// What an owned set begins with: a primary of an annotation.
 #[cycle(expressions)]
 fn set_start<'a>(alloc: Global, room: u32, tokens: &'a [Token<'a>]) -> Reading<'a, Expr>
     requires room { room < 1000 }
@@ -529,19 +553,9 @@ fn set_start<'a>(alloc: Global, room: u32, tokens: &'a [Token<'a>]) -> Reading<'
     if room == 0 {
         return Err(ReadFault::TooDeep(tokens));
     }
-    set_begun(alloc, room - 1, tokens)
-}
-
-/// A primary of an annotation that begins an owned set.
-#[cycle(expressions)]
-fn set_begun<'a>(alloc: Global, room: u32, tokens: &'a [Token<'a>]) -> Reading<'a, Expr>
-    requires room { room < 1000 }
-    ensures gives { Gives exp result (rule_at room g.set_start (lexemes tokens.now)) }
-    ensures low { IfOk result (λ x. x.height ≤ room + 1) }
-{
     match quantifier_at(tokens) {
-        None => set_primary(alloc, room, tokens),
-        Some(quantifier) => set_quantifier(alloc, quantifier, room, tokens),
+        None => set_primary(alloc, room - 1, tokens),
+        Some(quantifier) => set_quantifier(alloc, quantifier, room - 1, tokens),
     }
 }
 
@@ -575,50 +589,18 @@ fn set_quantifier<'a>(
     ensures low { IfOk result (λ x. x.height ≤ room + 1) }
 {
     fits(3, room, tokens)?;
-    set_quantified(alloc, quantifier, room, tokens)
-}
-
-/// A quantifier right of `\in`, with its body.
-#[cycle(expressions)]
-#[tactic(auto, unfolding(ebnf::specs::Reading::read, ebnf::specs::Reading::read_rule))]
-fn set_quantified<'a>(
-    alloc: Global,
-    quantifier: Quantifier,
-    room: u32,
-    tokens: &'a [Token<'a>],
-) -> Reading<'a, Expr>
-    requires room { room < 1000 }
-    requires fits { 0 < room }
-    ensures gives { Gives exp result (rule_at room (joints.quantified quantifier) (lexemes tokens.now)) }
-    ensures low { IfOk result (λ x. x.height ≤ room + 1) }
-{
-    let word = take_spec(word_of_quantifier(quantifier), tokens)?;
-    let ty = gtype(alloc, room, word.rest)?;
-    let name = take_name(alloc, 1, ty.rest)?;
-    let semicolon = take(Sign::Semicolon, name.rest)?;
-    let body = set_body(alloc, room, semicolon.rest)?;
-    let height = ty.height.max(name.height).max(body.height) + 1;
-    let held = boxed(alloc, body.value)?;
-    let (_, declared) = ty.value;
-    Ok(Parsed {
-        value: Expr::Quantified(word.value, quantifier, declared, name.value, held),
-        height,
-        rest: body.rest,
-    })
+    quantified(alloc, quantifier, Operand::SetBody, room, tokens)
 }
 
 /// The body of a quantifier right of `\in`: memberships, `&&` between, and `==>` above.
 #[cycle(expressions)]
 fn set_body<'a>(alloc: Global, room: u32, tokens: &'a [Token<'a>]) -> Reading<'a, Expr>
     requires room { room < 1000 }
-    ensures gives { Gives exp result (reads language room g.SetBody (lexemes tokens.now)) }
-    ensures low { IfOk result (λ x. x.height ≤ room) }
+    ensures gives { Gives exp result (rule_at room g.set_body (lexemes tokens.now)) }
+    ensures low { IfOk result (λ x. x.height ≤ room + 1) }
 {
-    if room == 0 {
-        return Err(ReadFault::TooDeep(tokens));
-    }
-    let left = set_conjunction(alloc, room - 1, tokens)?;
-    joined_behind(alloc, Joint::Implies, room - 1, left)
+    let left = set_conjunction(alloc, room, tokens)?;
+    joined_behind(alloc, Joint::Implies, room, left)
 }
 
 /// Memberships with `&&` between.
@@ -630,19 +612,6 @@ fn set_conjunction<'a>(alloc: Global, room: u32, tokens: &'a [Token<'a>]) -> Rea
 {
     let left = memberships(alloc, room, tokens)?;
     joined_behind(alloc, Joint::And, room, left)
-}
-
-/// What `&&` joins in such a body.
-#[cycle(expressions)]
-fn membership_of<'a>(alloc: Global, room: u32, tokens: &'a [Token<'a>]) -> Reading<'a, Expr>
-    requires room { room < 1000 }
-    ensures gives { Gives exp result (reads language room g.Membership (lexemes tokens.now)) }
-    ensures low { IfOk result (λ x. x.height ≤ room) }
-{
-    if room == 0 {
-        return Err(ReadFault::TooDeep(tokens));
-    }
-    memberships(alloc, room - 1, tokens)
 }
 
 /// An element, and `\in` with an owned set, once at least.
@@ -664,7 +633,12 @@ fn first_membership<'a>(alloc: Global, room: u32, tokens: &'a [Token<'a>]) -> Re
     ensures low { IfOk result (λ x. x.height ≤ room + 1) }
 {
     let left = element(alloc, room, tokens)?;
-    membership(alloc, room, left)
+    let held = Parsed {
+        value: boxed(alloc, left.value)?,
+        height: left.height,
+        rest: left.rest,
+    };
+    operation(alloc, BinaryOperator::In, Operand::OwnedSet, room, held)
 }
 
 /// What stands left of an `\in` in such a body: a primary with arrows behind.
@@ -753,68 +727,12 @@ fn one_joint<'a>(
     ensures gives { Gives exp result (levels.one_link room (joints.behind joint) (exp left.entry.value) left.entry.height (lexemes left.entry.rest.now)) }
     ensures low { IfOk result (λ x. x.height ≤ room + 1) }
 {
+    let held = Parsed {
+        value: boxed(alloc, left.value)?,
+        height: left.height,
+        rest: left.rest,
+    };
     fits(left.height.max(least_behind(joint)), room, left.rest)?;
-    joint_behind(alloc, joint, room, left)
-}
-
-/// A joint and what stands right of it.
-#[cycle(expressions)]
-fn joint_behind<'a>(
-    alloc: Global,
-    joint: Joint,
-    room: u32,
-    left: Parsed<'a, Expr>,
-) -> Reading<'a, Expr>
-    requires room { room < 1000 }
-    requires low { left.height ≤ room }
-    ensures gives { Gives exp result (joined (exp left.entry.value) left.entry.height (part room (joints.behind joint) (lexemes left.entry.rest.now))) }
-    ensures low { IfOk result (λ x. x.height ≤ room + 1) }
-{
-    match joint {
-        Joint::In => membership(alloc, room, left),
-        Joint::And => and_membership(alloc, room, left),
-        Joint::Implies => implies_body(alloc, room, left),
-    }
-}
-
-/// `&&` and memberships.
-#[cycle(expressions)]
-#[tactic(auto, unfolding(ebnf::specs::Reading::read))]
-fn and_membership<'a>(alloc: Global, room: u32, left: Parsed<'a, Expr>) -> Reading<'a, Expr>
-    requires room { room < 1000 }
-    requires low { left.height ≤ room }
-    ensures gives { Gives exp result (joined (exp left.entry.value) left.entry.height (part room g.and_membership (lexemes left.entry.rest.now))) }
-    ensures low { IfOk result (λ x. x.height ≤ room + 1) }
-{
-    let first = boxed(alloc, left.value)?;
-    let sign = take(Sign::And, left.rest)?;
-    let other = membership_of(alloc, room, sign.rest)?;
-    let second = boxed(alloc, other.value)?;
-    let height = left.height.max(other.height) + 1;
-    Ok(Parsed {
-        value: Expr::Binary(sign.value, BinaryOperator::And, first, second),
-        height,
-        rest: other.rest,
-    })
-}
-
-/// `==>` and a body.
-#[cycle(expressions)]
-#[tactic(auto, unfolding(ebnf::specs::Reading::read))]
-fn implies_body<'a>(alloc: Global, room: u32, left: Parsed<'a, Expr>) -> Reading<'a, Expr>
-    requires room { room < 1000 }
-    requires low { left.height ≤ room }
-    ensures gives { Gives exp result (joined (exp left.entry.value) left.entry.height (part room g.implies_body (lexemes left.entry.rest.now))) }
-    ensures low { IfOk result (λ x. x.height ≤ room + 1) }
-{
-    let first = boxed(alloc, left.value)?;
-    let sign = take(Sign::Implies, left.rest)?;
-    let other = set_body(alloc, room, sign.rest)?;
-    let second = boxed(alloc, other.value)?;
-    let height = left.height.max(other.height) + 1;
-    Ok(Parsed {
-        value: Expr::Binary(sign.value, BinaryOperator::Implies, first, second),
-        height,
-        rest: other.rest,
-    })
+    let (operator, right) = behind(joint);
+    operation(alloc, operator, right, room, held)
 }

@@ -6,14 +6,14 @@ ghost use Rattle.c_syntax.specs.Lexing.{lexeme};
 ghost use Rattle.c_syntax.specs.Grammar as g;
 ghost use Rattle.c_syntax.specs.Views.{exp};
 ghost use Rattle.expr_reader.specs.Forms as forms;
-ghost use Rattle.expr_reader.specs.Reading.{Gives, lexemes, rule_at};
+ghost use Rattle.expr_reader.specs.Reading.{Gives, lexemes, one_token, rule_at};
 
-use crate::forms::word_of_constant;
+use crate::forms::{Pair, word_of_constant, word_of_function, word_of_pair, word_of_quantifier};
 use crate::reading::{Parsed, ReadFault, Reading};
 use crate::tokens::{take_key, take_name, take_spec};
 use c_syntax::expressions::Expr;
-use c_syntax::token::{Keyword, Token, TokenKind};
-use c_syntax::tree::Constant;
+use c_syntax::token::{Keyword, Span, Token, TokenKind};
+use c_syntax::tree::{Constant, Quantifier, SpecFunction};
 use std::alloc::Global;
 
 /// A name.
@@ -85,4 +85,28 @@ pub fn constant<'a>(value: Constant, tokens: &'a [Token<'a>]) -> Reading<'a, Exp
         height: 1,
         rest: word.rest,
     })
+}
+
+/// The place of the word of a function.
+pub fn take_function<'a>(function: SpecFunction, tokens: &'a [Token<'a>]) -> Reading<'a, Span>
+    ensures gives { Gives (λ x. x) result (one_token (forms.function_class function) 0 (λ x. x.place) (lexemes tokens.now)) }
+    ensures flat { IfOk result (λ x. x.height ≡ 0) }
+{
+    take_spec(word_of_function(function), tokens)
+}
+
+/// The place of the word of two arguments.
+pub fn take_pair<'a>(pair: Pair, tokens: &'a [Token<'a>]) -> Reading<'a, Span>
+    ensures gives { Gives (λ x. x) result (one_token (forms.pair_class pair) 0 (λ x. x.place) (lexemes tokens.now)) }
+    ensures flat { IfOk result (λ x. x.height ≡ 0) }
+{
+    take_spec(word_of_pair(pair), tokens)
+}
+
+/// The place of the word of a quantifier.
+pub fn take_quantifier<'a>(quantifier: Quantifier, tokens: &'a [Token<'a>]) -> Reading<'a, Span>
+    ensures gives { Gives (λ x. x) result (one_token (forms.quantifier_class quantifier) 0 (λ x. x.place) (lexemes tokens.now)) }
+    ensures flat { IfOk result (λ x. x.height ≡ 0) }
+{
+    take_spec(word_of_quantifier(quantifier), tokens)
 }

@@ -8,6 +8,7 @@ pub mod joints;
 pub mod leaves;
 pub mod levels;
 pub mod memory;
+pub mod operands;
 pub mod reading;
 pub mod tokens;
 pub mod types;

@@ -5,7 +5,9 @@ ghost use Rattle.std.specs.Option.{option_map};
 ghost use Rattle.c_syntax.specs.Grammar as g;
 ghost use Rattle.c_syntax.specs.Views.{id, ty};
 ghost use Rattle.expr_reader.specs.Reading.{Gives, lexemes, part};
+ghost use Rattle.expr_reader.specs.Types as types;
 
+use crate::memory::boxed;
 use crate::reading::{Parsed, ReadFault, Reading, fits};
 use crate::tokens::{next_is_key, next_is_spec, take, take_key, take_name, take_spec};
 use c_syntax::expressions::{Identifier, ValueType};
@@ -81,30 +83,42 @@ fn unsigned_behind<'a>(room: u32, tokens: &'a [Token<'a>]) -> Reading<'a, ValueT
     })
 }
 
-/// `long long`, `unsigned long long` and the like.
-#[tactic(auto, unfolding(ebnf::specs::Reading::read, ebnf::specs::Sets::first, ebnf::specs::Sets::low, ebnf::specs::Sets::is_empty))]
-pub fn int_type<'a>(room: u32, tokens: &'a [Token<'a>]) -> Typed<'a>
-    ensures gives { Gives (λ x. (x.0, ty x.1)) result (part room g.int_type (lexemes tokens.now)) }
+/// `int`
+#[tactic(auto, unfolding(ebnf::specs::Reading::read))]
+fn plain_int<'a>(tokens: &'a [Token<'a>]) -> Typed<'a>
+    ensures gives { Gives (λ x. (x.0, ty x.1)) result (part 0 types.plain_int (lexemes tokens.now)) }
     ensures flat { IfOk result (λ x. x.height ≡ 0) }
 {
-    if next_is_key(Keyword::Int, tokens) {
-        let word = take_key(Keyword::Int, tokens)?;
-        return Ok(Parsed {
-            value: (word.value, ValueType::Integer(CType::Int)),
-            height: 0,
-            rest: word.rest,
-        });
-    }
-    if next_is_key(Keyword::Long, tokens) {
-        let word = take_key(Keyword::Long, tokens)?;
-        let second = take_key(Keyword::Long, word.rest)?;
-        let last = maybe_int(room, second.rest)?;
-        return Ok(Parsed {
-            value: (word.value, ValueType::Integer(CType::LongLong)),
-            height: 0,
-            rest: last.rest,
-        });
-    }
+    let word = take_key(Keyword::Int, tokens)?;
+    Ok(Parsed {
+        value: (word.value, ValueType::Integer(CType::Int)),
+        height: 0,
+        rest: word.rest,
+    })
+}
+
+/// `long long`
+#[tactic(auto, unfolding(ebnf::specs::Reading::read))]
+fn long_long<'a>(room: u32, tokens: &'a [Token<'a>]) -> Typed<'a>
+    ensures gives { Gives (λ x. (x.0, ty x.1)) result (part room types.long_long (lexemes tokens.now)) }
+    ensures flat { IfOk result (λ x. x.height ≡ 0) }
+{
+    let word = take_key(Keyword::Long, tokens)?;
+    let second = take_key(Keyword::Long, word.rest)?;
+    let last = maybe_int(room, second.rest)?;
+    Ok(Parsed {
+        value: (word.value, ValueType::Integer(CType::LongLong)),
+        height: 0,
+        rest: last.rest,
+    })
+}
+
+/// `unsigned long long` and the like.
+#[tactic(auto, unfolding(ebnf::specs::Reading::read))]
+fn unsigned<'a>(room: u32, tokens: &'a [Token<'a>]) -> Typed<'a>
+    ensures gives { Gives (λ x. (x.0, ty x.1)) result (part room types.unsigned (lexemes tokens.now)) }
+    ensures flat { IfOk result (λ x. x.height ≡ 0) }
+{
     let word = take_key(Keyword::Unsigned, tokens)?;
     let ty = unsigned_behind(room, word.rest)?;
     Ok(Parsed {
@@ -112,6 +126,21 @@ pub fn int_type<'a>(room: u32, tokens: &'a [Token<'a>]) -> Typed<'a>
         height: 0,
         rest: ty.rest,
     })
+}
+
+/// `long long`, `unsigned long long` and the like.
+#[tactic(auto, unfolding(ebnf::specs::Reading::read, ebnf::specs::Sets::first, ebnf::specs::Sets::low, ebnf::specs::Sets::is_empty))]
+pub fn int_type<'a>(room: u32, tokens: &'a [Token<'a>]) -> Typed<'a>
+    ensures gives { Gives (λ x. (x.0, ty x.1)) result (part room g.int_type (lexemes tokens.now)) }
+    ensures flat { IfOk result (λ x. x.height ≡ 0) }
+{
+    if next_is_key(Keyword::Int, tokens) {
+        return plain_int(tokens);
+    }
+    if next_is_key(Keyword::Long, tokens) {
+        return long_long(room, tokens);
+    }
+    unsigned(room, tokens)
 }
 
 /// The type of a variable of code.
@@ -156,4 +185,22 @@ pub fn gtype<'a>(alloc: Global, room: u32, tokens: &'a [Token<'a>]) -> Typed<'a>
         });
     }
     ctype(alloc, room, tokens)
+}
+
+/// The type of a ghost variable, in a box.
+pub fn boxed_gtype<'a>(
+    alloc: Global,
+    room: u32,
+    tokens: &'a [Token<'a>],
+) -> Reading<'a, Box<(Span, ValueType)>>
+    ensures gives { Gives (λ b. (b.value.0, ty b.value.1)) result (part room g.gtype (lexemes tokens.now)) }
+    ensures low { IfOk result (λ x. x.height ≤ 1) }
+{
+    let found = gtype(alloc, room, tokens)?;
+    let value = boxed(alloc, found.value)?;
+    Ok(Parsed {
+        value,
+        height: found.height,
+        rest: found.rest,
+    })
 }

@@ -1,5 +1,5 @@
 use Rattle.std.proofs.Common.{◌≡◌, ◌+◌, ◌-◌, suc, true, false, nat_le, List, [], ◌∷◌, ap, sym, ◌∙◌, arith}
-use Rattle.std.proofs.Common.{Vec}
+use Rattle.std.proofs.Common.{Vec, Box}
 use Rattle.std.specs.declared.alloc.Global.{Global}
 use Rattle.std.proofs.lemmas.List.{length-map}
 use Rattle.std.proofs.lemmas.Result.{err_from_is_err_and}
@@ -15,18 +15,23 @@ use Rattle.c_syntax.specs.Views.{exp, exps}
 use Rattle.c_syntax.specs.Language.{language}
 use Rattle.c_syntax.specs.Grammar as g
 use Rattle.c_syntax.specs.Grammar.{rule}
-use Rattle.expr_reader.specs.Reading.{lexemes, part, rule_at, entered}
-use Rattle.expr_reader.specs.Levels.{mode_of, tier_of, level, link, joined, whole}
+use Rattle.expr_reader.specs.Reading.{lexemes, rule_at, entered}
+use Rattle.expr_reader.specs.Levels.{mode_of, tier_of, level, link, whole, conditional, membership, binary}
 use Rattle.expr_reader.specs.Forms as forms
 use Rattle.expr_reader.specs.Lists.{behind_comma, listed}
 use Rattle.expr_reader.specs.Joints.{behind}
+use Rattle.expr_reader.specs.Operands.{outcome}
 use Rattle.expr_reader.proofs.Chains.{stop, over_from, goes_from, fails_from}
 use Rattle.expr_reader.proofs.Many as many
 use Rattle.expr_reader.proofs.Commas.{whole_list, begins_comma, comma_takes}
 use Rattle.expr_reader.proofs.Outcomes.{first_err, then_gives, same_gives, high_gives, is_prefix_rule, level_plus, link_high, link_binary, link_choice, link_in, link_in_high, at_in, not_in}
+use Rattle.expr_reader.proofs.Boxes.{held, right_of, joint_of, at_is, placed, none_read}
 use Rattle.expr_reader.proofs.Primaries.{primary_named, primary_code, primary_unnamed, unnamed_number, unnamed_null, unnamed_group, unnamed_high, unnamed_none, form_fits, form_high, constant_rule, prefix_fits, prefix_high, postfix_plus, set_read, reads_rule, reads_none, set_named, set_form, set_other}
 use Rattle.expr_reader.proofs.SetBodies.{start_primary, start_quantifier, quantifier_high, quantifier_fits, body_read, conjunction_read, memberships_read, membership_read, element_read, element_primary, element_high, element_fits, field_read, joint_high, joint_low, rooms}
 use Rattle.expr_reader.proofs.expressions.+expressions.Goals as goal
+
+abbrev unboxed : Box Expr Global → Exp
+unboxed b = exp b.value
 
 abbrev all_of : Vec Expr Global → List Exp
 all_of v = exps v.items
@@ -71,7 +76,7 @@ links-returns-clause-gives t c = sym c.chain.invariant.same ∙ stop c.args.room
 
 pub one_link-returns-in_err-fits-clause-gives : goal.one_link-returns-in_err-fits-clause-gives
 one_link-returns-in_err-fits-clause-gives t c =
-    let p = err_from_is_err_and c.from_residual.result c.from_residual.ensures.1 in
+    let p = err_from_is_err_and c.from_residual-in_err-fits.result c.from_residual-in_err-fits.ensures.1 in
     let e = c.in_err-fits.ensures.err in
     rw (p.1, p.2) (high_gives exp _ _ _ e.1 (link_high (mode_of c.args.mode) (tier_of c.args.tier) c.args.room _ _ _ c.requires.begins (ap (λ i. nat_le i c.args.room) (sym c.max.ensures) ∙ e.0)))
 
@@ -87,15 +92,16 @@ pub one_link-returns-then-next_is_spec-clause-gives : goal.one_link-returns-then
 one_link-returns-then-next_is_spec-clause-gives t c =
     let here : _ = sym c.next_is_spec.ensures ∙ c.if-next_is_spec.true in
     let w = at_in (mode_of c.args.mode) (tier_of c.args.tier) _ c.requires.begins here in
-    same_gives exp c.membership.result _ _ (link_in (mode_of c.args.mode) (tier_of c.args.tier) c.args.room _ _ _ c.requires.begins (ap (λ i. nat_le i c.args.room) (sym c.max.ensures) ∙ c.in_ok-fits.ensures.ok) (eq_true _ _ here) w.0 w.1 c.in_ok-fits-2.ensures.ok) c.membership.ensures.gives
+    same_gives exp c.operation.result _ _ (link_in (mode_of c.args.mode) (tier_of c.args.tier) c.args.room _ _ _ c.requires.begins (ap (λ i. nat_le i c.args.room) (sym c.max.ensures) ∙ c.in_ok-fits.ensures.ok) (eq_true _ _ here) w.0 w.1 c.in_ok-fits-2.ensures.ok ∙ held membership c.args.room c.args.left.height (lexemes c.args.left.rest.now) (ap exp c.in_ok-boxed.ensures.ok)) c.operation.ensures.gives
 
 pub one_link-returns-in-None-clause-gives : goal.one_link-returns-in-None-clause-gives
-one_link-returns-in-None-clause-gives t c = same_gives exp c.conditional.result _ _ (link_choice (mode_of c.args.mode) (tier_of c.args.tier) c.args.room _ _ _ c.requires.begins (ap (λ i. nat_le i c.args.room) (sym c.max.ensures) ∙ c.in_ok-fits.ensures.ok) (c.in-None.ensures.none c.requires.begins)) c.conditional.ensures.gives
+one_link-returns-in-None-clause-gives t c = same_gives exp c.conditional.result _ _ (link_choice (mode_of c.args.mode) (tier_of c.args.tier) c.args.room _ _ _ c.requires.begins (ap (λ i. nat_le i c.args.room) (sym c.max.ensures) ∙ c.in_ok-fits.ensures.ok) (c.in-None.ensures.none c.requires.begins) ∙ held (conditional (mode_of c.args.mode)) c.args.room c.args.left.height (lexemes c.args.left.rest.now) (ap exp c.in_ok-boxed.ensures.ok)) c.conditional.ensures.gives
 
 pub one_link-returns-in-Some-clause-gives : goal.one_link-returns-in-Some-clause-gives
 one_link-returns-in-Some-clause-gives t c =
     let w = c.in-Some.ensures.some in
-    same_gives exp c.binary.result _ _ (link_binary (mode_of c.args.mode) (tier_of c.args.tier) c.in-Some.operator c.args.room _ _ _ c.requires.begins (ap (λ i. nat_le i c.args.room) (sym c.max.ensures) ∙ c.in_ok-fits.ensures.ok) w.0 w.1 w.2 (not_in c.in-Some.operator _ w.0 (sym c.next_is_spec.ensures ∙ c.if-next_is_spec.false))) c.binary.ensures.gives
+    let o = c.in-Some.operator in
+    same_gives exp c.operation-in-Some.result _ _ (link_binary (mode_of c.args.mode) (tier_of c.args.tier) o c.args.room _ _ _ c.requires.begins (ap (λ i. nat_le i c.args.room) (sym c.max.ensures) ∙ c.in_ok-fits.ensures.ok) w.0 w.1 w.2 (not_in o _ w.0 (sym c.next_is_spec.ensures ∙ c.if-next_is_spec.false)) ∙ held (binary (mode_of c.args.mode) o) c.args.room c.args.left.height (lexemes c.args.left.rest.now) (ap exp c.in_ok-boxed.ensures.ok) ∙ right_of (mode_of c.args.mode) o c.args.room _ c.args.left.height (lexemes c.args.left.rest.now) c.right.ensures) c.operation-in-Some.ensures.gives
 
 -- ---- operators in front
 
@@ -227,28 +233,22 @@ list-returns-clause-gives t c =
 
 -- ---- owned sets
 
-pub owned_set-returns-then-room-eq0-clause-gives : goal.owned_set-returns-then-room-eq0-clause-gives
-owned_set-returns-then-room-eq0-clause-gives t c = reads_none c.args.room g.OwnedSet (lexemes c.args.tokens.now) c.if-room-eq0.true
-
 pub owned_set-returns-in_err-left-clause-gives : goal.owned_set-returns-in_err-left-clause-gives
 owned_set-returns-in_err-left-clause-gives t c =
     let p = err_from_is_err_and c.from_residual.result c.from_residual.ensures.1 in
-    rw (p.1, p.2) (first_err exp exp _ _ _ _ (set_read c.args.room (lexemes c.args.tokens.now) c.if-room-eq0.false) c.in_err-left.ensures.gives)
+    rw (p.1, p.2) (first_err exp exp _ _ _ _ (set_read c.args.room (lexemes c.args.tokens.now)) c.in_err-left.ensures.gives)
 
 pub owned_set-returns-clause-gives : goal.owned_set-returns-clause-gives
-owned_set-returns-clause-gives t c = then_gives exp c.climb.result _ _ _ _ _ _ (set_read c.args.room (lexemes c.args.tokens.now) c.if-room-eq0.false) c.in_ok-left.ensures.gives c.climb.ensures.gives
+owned_set-returns-clause-gives t c = then_gives exp c.climb.result _ _ _ _ _ _ (set_read c.args.room (lexemes c.args.tokens.now)) c.in_ok-left.ensures.gives c.climb.ensures.gives
 
 pub set_start-returns-then-room-eq0-clause-gives : goal.set_start-returns-then-room-eq0-clause-gives
 set_start-returns-then-room-eq0-clause-gives t c = reads_none c.args.room g.SetStart (lexemes c.args.tokens.now) c.if-room-eq0.true
 
-pub set_start-returns-clause-gives : goal.set_start-returns-clause-gives
-set_start-returns-clause-gives t c = same_gives exp c.set_begun.result _ _ (reads_rule c.args.room g.SetStart (lexemes c.args.tokens.now) c.if-room-eq0.false) c.set_begun.ensures.gives
+pub set_start-returns-in-None-clause-gives : goal.set_start-returns-in-None-clause-gives
+set_start-returns-in-None-clause-gives t c = same_gives exp c.set_primary.result _ _ (reads_rule c.args.room g.SetStart (lexemes c.args.tokens.now) c.if-room-eq0.false ∙ start_primary (c.args.room - 1) (lexemes c.args.tokens.now) c.in-None.ensures) c.set_primary.ensures.gives
 
-pub set_begun-returns-in-None-clause-gives : goal.set_begun-returns-in-None-clause-gives
-set_begun-returns-in-None-clause-gives t c = same_gives exp c.set_primary.result _ _ (start_primary c.args.room (lexemes c.args.tokens.now) c.in-None.ensures) c.set_primary.ensures.gives
-
-pub set_begun-returns-in-Some-clause-gives : goal.set_begun-returns-in-Some-clause-gives
-set_begun-returns-in-Some-clause-gives t c = same_gives exp c.set_quantifier.result _ _ (start_quantifier c.in-Some.quantifier c.args.room (lexemes c.args.tokens.now) c.in-Some.ensures) c.set_quantifier.ensures.gives
+pub set_start-returns-in-Some-clause-gives : goal.set_start-returns-in-Some-clause-gives
+set_start-returns-in-Some-clause-gives t c = same_gives exp c.set_quantifier.result _ _ (reads_rule c.args.room g.SetStart (lexemes c.args.tokens.now) c.if-room-eq0.false ∙ start_quantifier c.in-Some.quantifier (c.args.room - 1) (lexemes c.args.tokens.now) c.in-Some.ensures) c.set_quantifier.ensures.gives
 
 pub set_primary-returns-then-next_is_name-clause-gives : goal.set_primary-returns-then-next_is_name-clause-gives
 set_primary-returns-then-next_is_name-clause-gives t c = same_gives exp c.named.result _ _ (set_named c.args.room (lexemes c.args.tokens.now) (eq_true _ _ (sym c.next_is_name.ensures ∙ c.if-next_is_name.true))) c.named.ensures.gives
@@ -268,18 +268,15 @@ set_quantifier-returns-in_err-fits-clause-gives t c =
     rw (p.1, p.2) (high_gives exp _ _ _ e.1 (quantifier_high c.args.quantifier c.args.room (lexemes c.args.tokens.now) c.requires.here e.0))
 
 pub set_quantifier-returns-clause-gives : goal.set_quantifier-returns-clause-gives
-set_quantifier-returns-clause-gives t c = same_gives exp c.set_quantified.result _ _ (quantifier_fits c.args.quantifier c.args.room (lexemes c.args.tokens.now) c.requires.here c.in_ok-fits.ensures.ok) c.set_quantified.ensures.gives
-
-pub set_body-returns-then-room-eq0-clause-gives : goal.set_body-returns-then-room-eq0-clause-gives
-set_body-returns-then-room-eq0-clause-gives t c = reads_none c.args.room g.SetBody (lexemes c.args.tokens.now) c.if-room-eq0.true
+set_quantifier-returns-clause-gives t c = same_gives exp c.quantified.result _ _ (quantifier_fits c.args.quantifier c.args.room (lexemes c.args.tokens.now) c.requires.here c.in_ok-fits.ensures.ok) c.quantified.ensures.gives
 
 pub set_body-returns-in_err-left-clause-gives : goal.set_body-returns-in_err-left-clause-gives
 set_body-returns-in_err-left-clause-gives t c =
     let p = err_from_is_err_and c.from_residual.result c.from_residual.ensures.1 in
-    rw (p.1, p.2) (first_err exp exp _ _ _ _ (body_read c.args.room (lexemes c.args.tokens.now) c.if-room-eq0.false) c.in_err-left.ensures.gives)
+    rw (p.1, p.2) (first_err exp exp _ _ _ _ (body_read c.args.room (lexemes c.args.tokens.now)) c.in_err-left.ensures.gives)
 
 pub set_body-returns-clause-gives : goal.set_body-returns-clause-gives
-set_body-returns-clause-gives t c = then_gives exp c.joined_behind.result _ _ _ _ _ _ (body_read c.args.room (lexemes c.args.tokens.now) c.if-room-eq0.false) c.in_ok-left.ensures.gives c.joined_behind.ensures.gives
+set_body-returns-clause-gives t c = then_gives exp c.joined_behind.result _ _ _ _ _ _ (body_read c.args.room (lexemes c.args.tokens.now)) c.in_ok-left.ensures.gives c.joined_behind.ensures.gives
 
 pub set_conjunction-returns-in_err-left-clause-gives : goal.set_conjunction-returns-in_err-left-clause-gives
 set_conjunction-returns-in_err-left-clause-gives t c =
@@ -288,12 +285,6 @@ set_conjunction-returns-in_err-left-clause-gives t c =
 
 pub set_conjunction-returns-clause-gives : goal.set_conjunction-returns-clause-gives
 set_conjunction-returns-clause-gives t c = then_gives exp c.joined_behind.result _ _ _ _ _ _ (conjunction_read c.args.room (lexemes c.args.tokens.now)) c.in_ok-left.ensures.gives c.joined_behind.ensures.gives
-
-pub membership_of-returns-then-room-eq0-clause-gives : goal.membership_of-returns-then-room-eq0-clause-gives
-membership_of-returns-then-room-eq0-clause-gives t c = reads_none c.args.room g.Membership (lexemes c.args.tokens.now) c.if-room-eq0.true
-
-pub membership_of-returns-clause-gives : goal.membership_of-returns-clause-gives
-membership_of-returns-clause-gives t c = same_gives exp c.memberships.result _ _ (reads_rule c.args.room g.Membership (lexemes c.args.tokens.now) c.if-room-eq0.false) c.memberships.ensures.gives
 
 pub memberships-returns-in_err-left-clause-gives : goal.memberships-returns-in_err-left-clause-gives
 memberships-returns-in_err-left-clause-gives t c =
@@ -309,7 +300,7 @@ first_membership-returns-in_err-left-clause-gives t c =
     rw (p.1, p.2) (first_err exp exp _ _ _ _ (membership_read c.args.room (lexemes c.args.tokens.now)) c.in_err-left.ensures.gives)
 
 pub first_membership-returns-clause-gives : goal.first_membership-returns-clause-gives
-first_membership-returns-clause-gives t c = then_gives exp c.membership.result _ _ _ _ _ _ (membership_read c.args.room (lexemes c.args.tokens.now)) c.in_ok-left.ensures.gives c.membership.ensures.gives
+first_membership-returns-clause-gives t c = then_gives exp c.operation.result _ _ _ _ _ _ (membership_read c.args.room (lexemes c.args.tokens.now)) c.in_ok-left.ensures.gives (same_gives exp c.operation.result _ _ (held membership c.args.room c.in_ok-left.left.height (lexemes c.in_ok-left.left.rest.now) (ap exp c.in_ok-boxed.ensures.ok)) c.operation.ensures.gives)
 
 pub element-returns-then-room-eq0-clause-gives : goal.element-returns-then-room-eq0-clause-gives
 element-returns-then-room-eq0-clause-gives t c = reads_none c.args.room g.Element (lexemes c.args.tokens.now) c.if-room-eq0.true
@@ -369,26 +360,34 @@ joined_behind-returns-clause-gives t c = sym c.chain.invariant.same ∙ stop c.a
 
 pub one_joint-returns-in_err-fits-clause-gives : goal.one_joint-returns-in_err-fits-clause-gives
 one_joint-returns-in_err-fits-clause-gives t c =
-    let p = err_from_is_err_and c.from_residual.result c.from_residual.ensures.1 in
+    let p = err_from_is_err_and c.from_residual-in_err-fits.result c.from_residual-in_err-fits.ensures.1 in
     let e = c.in_err-fits.ensures.err in
     rw (p.1, p.2) (high_gives exp _ _ _ e.1 (joint_high (behind c.args.joint) c.args.room _ _ _ (rooms c.args.room _ c.least_behind.ensures c.max.ensures ∙ e.0)))
 
 pub one_joint-returns-clause-gives : goal.one_joint-returns-clause-gives
-one_joint-returns-clause-gives t c = same_gives exp c.joint_behind.result _ _ (joint_low (behind c.args.joint) c.args.room _ _ _ (rooms c.args.room _ c.least_behind.ensures c.max.ensures ∙ c.in_ok-fits.ensures.ok)) c.joint_behind.ensures.gives
+one_joint-returns-clause-gives t c = same_gives exp c.operation.result _ _ (joint_low (behind c.args.joint) c.args.room _ _ _ (rooms c.args.room _ c.least_behind.ensures c.max.ensures ∙ c.in_ok-fits.ensures.ok) ∙ held (behind c.args.joint) c.args.room c.args.left.height (lexemes c.args.left.rest.now) (ap exp c.in_ok-boxed.ensures.ok) ∙ joint_of c.args.joint c.args.room _ c.args.left.height (lexemes c.args.left.rest.now) c.behind-operator.ensures) c.operation.ensures.gives
 
-pub joint_behind-returns-in-In-clause-gives : goal.joint_behind-returns-in-In-clause-gives
-joint_behind-returns-in-In-clause-gives t c = same_gives exp c.membership.result _ _ (ap (λ x. joined (exp c.args.left.value) c.args.left.height (part c.args.room (behind x) (lexemes c.args.left.rest.now))) c.in-In.is) c.membership.ensures.gives
+-- ---- operands
 
-pub joint_behind-returns-in-And-clause-gives : goal.joint_behind-returns-in-And-clause-gives
-joint_behind-returns-in-And-clause-gives t c = same_gives exp c.and_membership.result _ _ (ap (λ x. joined (exp c.args.left.value) c.args.left.height (part c.args.room (behind x) (lexemes c.args.left.rest.now))) c.in-And.is) c.and_membership.ensures.gives
+pub operand-returns-in_err-found-clause-placed : goal.operand-returns-in_err-found-clause-placed
+operand-returns-in_err-found-clause-placed t c =
+    let p = err_from_is_err_and c.from_residual.result c.from_residual.ensures.1 in
+    rw (p.1, p.2) (first_err exp unboxed _ _ _ _ (at_is c.args.operand c.args.room (lexemes c.args.tokens.now)) c.in_err-found.ensures.gives)
 
-pub joint_behind-returns-in-Implies-clause-gives : goal.joint_behind-returns-in-Implies-clause-gives
-joint_behind-returns-in-Implies-clause-gives t c = same_gives exp c.implies_body.result _ _ (ap (λ x. joined (exp c.args.left.value) c.args.left.height (part c.args.room (behind x) (lexemes c.args.left.rest.now))) c.in-Implies.is) c.implies_body.ensures.gives
+pub operand-returns-clause-placed : goal.operand-returns-clause-placed
+operand-returns-clause-placed t c = placed c.args.operand c.args.room _ (lexemes c.args.tokens.now) _ (ap exp c.in_ok-value.ensures.ok) c.in_ok-found.ensures.gives
 
--- ---- whole expressions
+pub unboxed_operand-returns-then-room-eq0-clause-gives : goal.unboxed_operand-returns-then-room-eq0-clause-gives
+unboxed_operand-returns-then-room-eq0-clause-gives t c = none_read c.args.operand c.args.room (lexemes c.args.tokens.now) c.if-room-eq0.true
 
-pub expression-returns-then-room-eq0-clause-gives : goal.expression-returns-then-room-eq0-clause-gives
-expression-returns-then-room-eq0-clause-gives t c = reads_none c.args.room (level c.args.mode c.args.tier) (lexemes c.args.tokens.now) c.if-room-eq0.true
+pub unboxed_operand-returns-in-Level-clause-gives : goal.unboxed_operand-returns-in-Level-clause-gives
+unboxed_operand-returns-in-Level-clause-gives t c = same_gives exp c.on_level.result _ _ (ap (λ x. outcome c.args.room x (lexemes c.args.tokens.now)) c.in-Level.is ∙ reads_rule c.args.room (level c.in-Level.mode c.in-Level.tier) (lexemes c.args.tokens.now) c.if-room-eq0.false) c.on_level.ensures.gives
 
-pub expression-returns-clause-gives : goal.expression-returns-clause-gives
-expression-returns-clause-gives t c = same_gives exp c.on_level.result _ _ (reads_rule c.args.room (level c.args.mode c.args.tier) (lexemes c.args.tokens.now) c.if-room-eq0.false) c.on_level.ensures.gives
+pub unboxed_operand-returns-in-OwnedSet-clause-gives : goal.unboxed_operand-returns-in-OwnedSet-clause-gives
+unboxed_operand-returns-in-OwnedSet-clause-gives t c = same_gives exp c.owned_set.result _ _ (ap (λ x. outcome c.args.room x (lexemes c.args.tokens.now)) c.in-OwnedSet.is ∙ reads_rule c.args.room g.OwnedSet (lexemes c.args.tokens.now) c.if-room-eq0.false) c.owned_set.ensures.gives
+
+pub unboxed_operand-returns-in-Membership-clause-gives : goal.unboxed_operand-returns-in-Membership-clause-gives
+unboxed_operand-returns-in-Membership-clause-gives t c = same_gives exp c.memberships.result _ _ (ap (λ x. outcome c.args.room x (lexemes c.args.tokens.now)) c.in-Membership.is ∙ reads_rule c.args.room g.Membership (lexemes c.args.tokens.now) c.if-room-eq0.false) c.memberships.ensures.gives
+
+pub unboxed_operand-returns-in-SetBody-clause-gives : goal.unboxed_operand-returns-in-SetBody-clause-gives
+unboxed_operand-returns-in-SetBody-clause-gives t c = same_gives exp c.set_body.result _ _ (ap (λ x. outcome c.args.room x (lexemes c.args.tokens.now)) c.in-SetBody.is ∙ reads_rule c.args.room g.SetBody (lexemes c.args.tokens.now) c.if-room-eq0.false) c.set_body.ensures.gives

@@ -7,9 +7,6 @@ use Rattle.expr_reader.specs.Lists.{listed}
 use Rattle.expr_reader.specs.Joints.{behind}
 use Rattle.expr_reader.proofs.expressions.+expressions.Given as goal
 
-abbrev pub decreases-expression : goal.decreases-expression
-decreases-expression l = 64 * l.room
-
 abbrev pub decreases-on_level : goal.decreases-on_level
 decreases-on_level l = 64 * l.room + 40 + number (tier_of l.tier)
 
@@ -22,11 +19,14 @@ decreases-one_link l = 64 * l.room + 11
 abbrev pub decreases-conditional : goal.decreases-conditional
 decreases-conditional l = 64 * l.room + 10
 
-abbrev pub decreases-binary : goal.decreases-binary
-decreases-binary l = 64 * l.room + 10
+abbrev pub decreases-operation : goal.decreases-operation
+decreases-operation l = 64 * l.room + 10
 
-abbrev pub decreases-membership : goal.decreases-membership
-decreases-membership l = 64 * l.room + 10
+abbrev pub decreases-operand : goal.decreases-operand
+decreases-operand l = 64 * l.room + 1
+
+abbrev pub decreases-unboxed_operand : goal.decreases-unboxed_operand
+decreases-unboxed_operand l = 64 * l.room
 
 abbrev pub decreases-prefix : goal.decreases-prefix
 decreases-prefix l = 64 * l.room + 30
@@ -41,7 +41,7 @@ abbrev pub decreases-unnamed : goal.decreases-unnamed
 decreases-unnamed l = 64 * l.room + 20
 
 abbrev pub decreases-group : goal.decreases-group
-decreases-group l = 64 * l.room + 4
+decreases-group l = 64 * l.room + 6
 
 abbrev pub decreases-formed : goal.decreases-formed
 decreases-formed l = 64 * l.room + 20
@@ -50,16 +50,16 @@ abbrev pub decreases-worded : goal.decreases-worded
 decreases-worded l = 64 * l.room + 15
 
 abbrev pub decreases-apply : goal.decreases-apply
-decreases-apply l = 64 * l.room + 4
+decreases-apply l = 64 * l.room + 6
 
 abbrev pub decreases-paired : goal.decreases-paired
-decreases-paired l = 64 * l.room + 4
+decreases-paired l = 64 * l.room + 6
 
 abbrev pub decreases-mine : goal.decreases-mine
 decreases-mine l = 64 * l.room + 6
 
 abbrev pub decreases-quantified : goal.decreases-quantified
-decreases-quantified l = 64 * l.room + 4
+decreases-quantified l = 64 * l.room + 6
 
 abbrev pub decreases-list : goal.decreases-list
 decreases-list l = 64 * l.room + 5
@@ -76,23 +76,14 @@ decreases-set_start l = 64 * l.room + 2
 abbrev pub decreases-set_primary : goal.decreases-set_primary
 decreases-set_primary l = 64 * l.room + 24
 
-abbrev pub decreases-set_begun : goal.decreases-set_begun
-decreases-set_begun l = 64 * l.room + 30
-
 abbrev pub decreases-set_quantifier : goal.decreases-set_quantifier
 decreases-set_quantifier l = 64 * l.room + 25
 
-abbrev pub decreases-set_quantified : goal.decreases-set_quantified
-decreases-set_quantified l = 64 * l.room + 4
-
 abbrev pub decreases-set_body : goal.decreases-set_body
-decreases-set_body l = 64 * l.room + 3
+decreases-set_body l = 64 * l.room + 60
 
 abbrev pub decreases-set_conjunction : goal.decreases-set_conjunction
 decreases-set_conjunction l = 64 * l.room + 55
-
-abbrev pub decreases-membership_of : goal.decreases-membership_of
-decreases-membership_of l = 64 * l.room + 3
 
 abbrev pub decreases-memberships : goal.decreases-memberships
 decreases-memberships l = 64 * l.room + 50
@@ -114,15 +105,6 @@ decreases-joined_behind l = 64 * l.room + 13
 
 abbrev pub decreases-one_joint : goal.decreases-one_joint
 decreases-one_joint l = 64 * l.room + 12
-
-abbrev pub decreases-joint_behind : goal.decreases-joint_behind
-decreases-joint_behind l = 64 * l.room + 11
-
-abbrev pub decreases-and_membership : goal.decreases-and_membership
-decreases-and_membership l = 64 * l.room + 10
-
-abbrev pub decreases-implies_body : goal.decreases-implies_body
-decreases-implies_body l = 64 * l.room + 10
 
 abbrev pub invariant-links-chain : goal.invariant-links-chain
 invariant-links-chain l = record {
