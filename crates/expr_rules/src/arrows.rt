@@ -31,21 +31,14 @@ use c_syntax::tree::{Constant, Status};
 fn is_code(of: Text) -> bool
     ensures { result ≡ ghosts.is_code (text of) }
 {
-    of == Text::Code
+    matches!(of, Text::Code)
 }
 
 /// Whether a text is a type's invariant.
 pub fn is_type_invariant(of: Text) -> bool
     ensures { result ≡ words.is_type_invariant (text of) }
 {
-    of == Text::TypeInvariant
-}
-
-/// Whether a text is an ensures clause.
-fn is_ensures(of: Text) -> bool
-    ensures { result ≡ words.is_ensures (text of) }
-{
-    of == Text::Ensures
+    matches!(of, Text::TypeInvariant)
 }
 
 /// Whether it is a property, or part of one.
@@ -125,7 +118,7 @@ fn has_result<'s, 'a>(context: Context<'s, 'a>) -> bool
 {
     match context.value {
         None => false,
-        Some(_) => is_ensures(context.text),
+        Some(_) => matches!(context.text, Text::Ensures),
     }
 }
 

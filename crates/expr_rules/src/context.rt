@@ -12,7 +12,7 @@ use declared_names::declarations::{Declarations, StructEntry};
 use declared_names::variables::Variables;
 
 /// What a text is: what runs, ghost code, or which kind of spec.
-#[derive(Clone, Copy, Debug, PartialEq, Eq)]
+#[derive(Clone, Copy)]
 pub enum Text {
     Code,
     /// also what is wrapped, unwrapped or listed at an atomic block, and ghost arguments
@@ -83,13 +83,11 @@ impl<'a> InProperty<'a> {
 
 impl<'s, 'a> Context<'s, 'a> {
     /// Inside an expression that isn't a conjunction.
-    pub fn deeper(self) -> Context<'s, 'a>
+    pub fn deeper(mut self) -> Context<'s, 'a>
         ensures { context result ≡ spec.deeper (context self.entry) }
     {
-        Context {
-            property: self.property.part(),
-            ..self
-        }
+        self.property = self.property.part();
+        self
     }
 
     /// Around the operands of an operator.
@@ -103,65 +101,53 @@ impl<'s, 'a> Context<'s, 'a> {
     }
 
     /// Around the argument of a word.
-    pub fn argument(self, function: SpecFunction) -> Context<'s, 'a>
+    pub fn argument(mut self, function: SpecFunction) -> Context<'s, 'a>
         ensures { context result ≡ pieces.argument function (context self.entry) }
     {
-        Context {
-            property: self.property.part(),
-            in_old: function == SpecFunction::Old || self.in_old,
-            ..self
-        }
+        self.property = self.property.part();
+        self.in_old = matches!(function, SpecFunction::Old) || self.in_old;
+        self
     }
 
     /// In the second argument of `\claims`.
-    pub fn inside_claims(self) -> Context<'s, 'a>
+    pub fn inside_claims(mut self) -> Context<'s, 'a>
         ensures { context result ≡ spec.inside_claims (context self.entry) }
     {
-        Context {
-            property: InProperty::Conjunct(None),
-            ..self
-        }
+        self.property = InProperty::Conjunct(None);
+        self
     }
 
     /// As another text.
-    pub fn with_text(self, other: Text) -> Context<'s, 'a>
+    pub fn with_text(mut self, other: Text) -> Context<'s, 'a>
         ensures { context result ≡ spec.with_text (text other) (context self.entry) }
     {
-        Context {
-            text: other,
-            ..self
-        }
+        self.text = other;
+        self
     }
 
     /// In the property of a claim of these objects.
-    pub fn claim_property(self, objects: &'a [Expr]) -> Context<'s, 'a>
+    pub fn claim_property(mut self, objects: &'a [Expr]) -> Context<'s, 'a>
         ensures { context result ≡ pieces.claim_property (view.exps objects.now) (context self.entry) }
     {
-        Context {
-            text: Text::ClaimProperty,
-            property: InProperty::Conjunct(Some(objects)),
-            ..self
-        }
+        self.text = Text::ClaimProperty;
+        self.property = InProperty::Conjunct(Some(objects));
+        self
     }
 
     /// In an atomic block.
-    pub fn inside_atomic(self) -> Context<'s, 'a>
+    pub fn inside_atomic(mut self) -> Context<'s, 'a>
         ensures { context result ≡ spec.inside_atomic (context self.entry) }
     {
-        Context {
-            in_atomic: true,
-            ..self
-        }
+        self.in_atomic = true;
+        self
     }
 
     /// In an unwrapping block.
-    pub fn inside_unwrapping(self) -> Context<'s, 'a>
+    pub fn inside_unwrapping(mut self) -> Context<'s, 'a>
         ensures { context result ≡ spec.inside_unwrapping (context self.entry) }
     {
-        Context {
-            in_unwrapping: true,
-            ..self
-        }
+        self.in_unwrapping = true;
+        self
     }
 
     /// In the body of a quantifier over this variable, which stands in front of those around.

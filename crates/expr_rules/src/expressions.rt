@@ -19,6 +19,7 @@ use c_syntax::expressions::Expr;
 pub fn expression<'s, 'a>(context: Context<'s, 'a>, x: &'a Expr) -> Judged<'s, 'a>
     ensures { judged result ≡ judge (around context.entry) (exp x.now) }
 {
+    let inside = context.deeper();
     match x {
         Expr::Number(_, _, _) => leaf(Some(Kind::Integer), None),
         Expr::Null(_) => leaf(Some(Kind::Null), None),
@@ -29,29 +30,28 @@ pub fn expression<'s, 'a>(context: Context<'s, 'a>, x: &'a Expr) -> Judged<'s, '
             whole(inner.kind, inner.found, None)
         }
         Expr::Field(span, left, named) => {
-            let inner = expression(context.deeper(), left);
+            let inner = expression(inside, left);
             field(context, *span, named, inner)
         }
         Expr::Status(span, left, place, which) => {
-            let inner = expression(context.deeper(), left);
+            let inner = expression(inside, left);
             status(context, *span, left, *place, *which, inner)
         }
         Expr::Owns(span, left, place) => {
-            let inner = expression(context.deeper(), left);
+            let inner = expression(inside, left);
             owns(context, *span, left, *place, inner)
         }
         Expr::Unary(span, operator, operand) => {
-            let inner = expression(context.deeper(), operand);
+            let inner = expression(inside, operand);
             unary(*span, *operator, inner)
         }
         Expr::Binary(span, operator, left, right) => {
-            let inside = context.operand(*operator);
-            let first = expression(inside, left);
-            let second = expression(inside, right);
+            let around_operands = context.operand(*operator);
+            let first = expression(around_operands, left);
+            let second = expression(around_operands, right);
             binary(*span, *operator, first, second)
         }
         Expr::Conditional(span, test, left, right) => {
-            let inside = context.deeper();
             let condition = expression(inside, test);
             let first = expression(inside, left);
             let second = expression(inside, right);
@@ -62,24 +62,23 @@ pub fn expression<'s, 'a>(context: Context<'s, 'a>, x: &'a Expr) -> Judged<'s, '
             apply(context, *span, *function, argument, inner)
         }
         Expr::Mine(span, arguments) => {
-            let inner = row(context.deeper(), arguments);
+            let inner = row(inside, arguments);
             mine(context, *span, inner)
         }
         Expr::ClaimsObject(_, claim, object) => {
-            let inside = context.deeper();
             let first = expression(inside, claim);
             let second = expression(inside, object);
             claims_object(claim, object, first, second)
         }
         Expr::Claims(_, claim, property) => {
-            let first = expression(context.deeper(), claim);
+            let first = expression(inside, claim);
             let second = expression(context.inside_claims(), property);
             claims(claim, first, second)
         }
         Expr::Quantified(span, quantifier, ty, variable, body) => {
             let bound = Quantified::Variable(ty, variable, context.scope.quantified);
-            let inside = context.quantified(ty, variable, &bound);
-            let inner = expression(inside, body);
+            let in_body = context.quantified(ty, variable, &bound);
+            let inner = expression(in_body, body);
             quantified(context, *span, *quantifier, ty, variable, body, inner)
         }
     }

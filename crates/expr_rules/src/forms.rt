@@ -58,19 +58,19 @@ pub fn mentions(name: &Identifier, x: &Expr) -> bool
     match x {
         Expr::Number(_, _, _) | Expr::Null(_) | Expr::Constant(_, _) => false,
         Expr::Name(other) => same_name(name, other),
-        Expr::Group(_, inner) => mentions(name, inner),
-        Expr::Field(_, left, _) => mentions(name, left),
-        Expr::Status(_, left, _, _) => mentions(name, left),
-        Expr::Owns(_, left, _) => mentions(name, left),
-        Expr::Unary(_, _, operand) => mentions(name, operand),
-        Expr::Binary(_, _, left, right) => mentions(name, left) || mentions(name, right),
+        Expr::Group(_, inner)
+        | Expr::Field(_, inner, _)
+        | Expr::Status(_, inner, _, _)
+        | Expr::Owns(_, inner, _)
+        | Expr::Unary(_, _, inner)
+        | Expr::Apply(_, _, inner) => mentions(name, inner),
+        Expr::Binary(_, _, first, second)
+        | Expr::ClaimsObject(_, first, second)
+        | Expr::Claims(_, first, second) => mentions(name, first) || mentions(name, second),
         Expr::Conditional(_, test, first, second) => {
             mentions(name, test) || (mentions(name, first) || mentions(name, second))
         }
-        Expr::Apply(_, _, argument) => mentions(name, argument),
         Expr::Mine(_, arguments) => any_mentions(name, arguments),
-        Expr::ClaimsObject(_, claim, object) => mentions(name, claim) || mentions(name, object),
-        Expr::Claims(_, claim, property) => mentions(name, claim) || mentions(name, property),
         Expr::Quantified(_, _, _, bound, body) => {
             if same_name(name, bound) {
                 false

@@ -63,7 +63,7 @@ pub fn broken_if(is_broken: bool, broken_rule: Rule, span: Span) -> Option<Broke
 
 /// What parts of a program break first; and for an atomic block around them, their first access to a volatile field, and what
 /// their further accesses break first.
-#[derive(Clone, Copy, Debug, PartialEq, Eq)]
+#[derive(Clone, Copy)]
 pub struct Findings {
     pub first: Option<Broken>,
     pub access: Option<Span>,

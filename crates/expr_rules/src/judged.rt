@@ -115,14 +115,17 @@ fn binary_kind<'s, 'a>(
 ) -> Option<Kind<'s, 'a>>
     ensures { maybe_kind result ≡ spec.binary_kind operator (maybe_kind left.entry) (maybe_kind right.entry) }
 {
-    let left = left?;
-    let right = right?;
-    if left_fits(operator, left)
-        && (right_fits(operator, right) && together_fit(operator, left, right))
-    {
-        Some(Kind::Integer)
-    } else {
-        None
+    match (left, right) {
+        (Some(left), Some(right)) => {
+            if left_fits(operator, left)
+                && (right_fits(operator, right) && together_fit(operator, left, right))
+            {
+                Some(Kind::Integer)
+            } else {
+                None
+            }
+        }
+        _ => None,
     }
 }
 
@@ -169,10 +172,10 @@ fn choice_kind<'s, 'a>(
 ) -> Option<Kind<'s, 'a>>
     ensures { maybe_kind result ≡ spec.choice_kind (maybe_kind test.entry) (maybe_kind left.entry) (maybe_kind right.entry) }
 {
-    let test = test?;
-    let left = left?;
-    let right = right?;
-    conditional_kind(test, left, right)
+    match (test, left, right) {
+        (Some(test), Some(left), Some(right)) => conditional_kind(test, left, right),
+        _ => None,
+    }
 }
 
 /// `?:` between its test and branches.

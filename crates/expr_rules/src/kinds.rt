@@ -65,17 +65,19 @@ impl<'s, 'a> Kind<'s, 'a> {
     pub fn converts(self, other: Kind<'s, 'a>) -> bool
         ensures { result ≡ spec.converts (kind self.entry) (kind other.entry) }
     {
-        match (self, other) {
-            (Kind::Integer, Kind::Integer) => true,
-            (Kind::Null, _) => other.is_reference(),
-            (Kind::Pointer(left), Kind::Pointer(right)) => {
-                left.tree.name.name.as_slice() == right.tree.name.name.as_slice()
-            }
-            (Kind::Pointer(_), Kind::Object)
-            | (Kind::Object, Kind::Object)
-            | (Kind::Claim, Kind::Claim)
-            | (Kind::Claim, Kind::Object) => true,
-            _ => false,
+        match self {
+            Kind::Integer => matches!(other, Kind::Integer),
+            Kind::Null => other.is_reference(),
+            Kind::Pointer(left) => match other {
+                Kind::Pointer(right) => {
+                    left.tree.name.name.as_slice() == right.tree.name.name.as_slice()
+                }
+                Kind::Object => true,
+                _ => false,
+            },
+            Kind::Object => matches!(other, Kind::Object),
+            Kind::Claim => matches!(other, Kind::Claim | Kind::Object),
+            Kind::OwnedSet | Kind::Void => false,
         }
     }
 

@@ -29,39 +29,22 @@ pub fn ghost_statement<'s, 'a>(
     ensures kept { OnOk result (known variables.new ≡ known variables.old) }
 {
     let none = Quantified::Nothing;
+    let context = around.context(variables, &none);
     match x {
         GhostStmt::Block(_, all) => ghost_statements(around, variables, all),
-        GhostStmt::Declare(span, ty, _, first) => {
-            let context = around.context(variables, &none);
-            Ok(ghost_declaration(context, *span, ty, first))
-        }
-        GhostStmt::Assign(_, left, _, value) => {
-            let context = around.context(variables, &none);
-            Ok(ghost_assignment(context, left, value))
-        }
-        GhostStmt::Owns(_, left, _, change) => {
-            let context = around.context(variables, &none);
-            Ok(owned_set_change(context, left, change))
-        }
-        GhostStmt::DestroyClaim(_, claim, objects) => {
-            let context = around.context(variables, &none);
-            Ok(claim_end(context, claim, objects))
-        }
-        GhostStmt::Wrap(span, object) => {
-            let context = around.context(variables, &none);
-            Ok(ghost_wrap(context, *span, object))
-        }
-        GhostStmt::Unwrap(span, object) => {
-            let context = around.context(variables, &none);
-            Ok(ghost_wrap(context, *span, object))
-        }
+        GhostStmt::Declare(span, ty, _, first) => Ok(ghost_declaration(context, *span, ty, first)),
+        GhostStmt::Assign(_, left, _, value) => Ok(ghost_assignment(context, left, value)),
+        GhostStmt::Owns(_, left, _, change) => Ok(owned_set_change(context, left, change)),
+        GhostStmt::DestroyClaim(_, claim, objects) => Ok(claim_end(context, claim, objects)),
+        GhostStmt::Wrap(span, object) => Ok(ghost_wrap(context, *span, object)),
+        GhostStmt::Unwrap(span, object) => Ok(ghost_wrap(context, *span, object)),
         GhostStmt::If(_, test, yes) => {
-            let condition = expression(around.context(variables, &none), test).found;
+            let condition = expression(context, test).found;
             let inner = ghost_statement(around, variables, yes)?;
             Ok(condition.then(inner))
         }
         GhostStmt::IfElse(_, test, first, second) => {
-            let condition = expression(around.context(variables, &none), test).found;
+            let condition = expression(context, test).found;
             let yes = ghost_statement(around, variables, first)?;
             let no = ghost_statement(around, variables, second)?;
             Ok(condition.then(yes.then(no)))

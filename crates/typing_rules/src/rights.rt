@@ -239,14 +239,26 @@ fn interlocked<'s, 'a>(
     }
 }
 
+/// What a function with a value of this type gives, or one without.
+fn value_kind<'s, 'a>(
+    declarations: &'s Declarations<'a>,
+    value: &'a Option<ValueType>,
+) -> Option<Kind<'s, 'a>>
+    ensures { maybe_kind result ≡ given_by.value_kind (program declarations.now) (option_map view.ty value.now) }
+{
+    match value {
+        None => Some(Kind::Void),
+        Some(ty) => kind_of(declarations, ty),
+    }
+}
+
 /// What a call gives.
 fn call_kind<'s, 'a>(context: Context<'s, 'a>, x: &'a Call) -> Option<Kind<'s, 'a>>
     ensures { maybe_kind result ≡ given_by.call_kind (around context.entry).scope (view.call x.now) }
 {
-    let function = context.scope.declarations.find_function(&x.function)?;
-    match &function.result {
-        None => Some(Kind::Void),
-        Some(ty) => kind_of(context.scope.declarations, ty),
+    match context.scope.declarations.find_function(&x.function) {
+        None => None,
+        Some(function) => value_kind(context.scope.declarations, &function.result),
     }
 }
 

@@ -55,33 +55,27 @@ impl<'s, 'a> Surroundings<'s, 'a> {
     }
 
     /// In ghost code.
-    pub fn as_ghost(self) -> Surroundings<'s, 'a>
+    pub fn as_ghost(mut self) -> Surroundings<'s, 'a>
         ensures { fixed result ≡ ghostly (fixed self.entry) }
     {
-        Surroundings {
-            text: Text::GhostCode,
-            ..self
-        }
+        self.text = Text::GhostCode;
+        self
     }
 
     /// In an atomic block.
-    pub fn inside_atomic(self) -> Surroundings<'s, 'a>
+    pub fn inside_atomic(mut self) -> Surroundings<'s, 'a>
         ensures { fixed result ≡ in_atomic_block (fixed self.entry) }
     {
-        Surroundings {
-            in_atomic: true,
-            ..self
-        }
+        self.in_atomic = true;
+        self
     }
 
     /// In an unwrapping block.
-    pub fn inside_unwrapping(self) -> Surroundings<'s, 'a>
+    pub fn inside_unwrapping(mut self) -> Surroundings<'s, 'a>
         ensures { fixed result ≡ in_unwrapping_block (fixed self.entry) }
     {
-        Surroundings {
-            in_unwrapping: true,
-            ..self
-        }
+        self.in_unwrapping = true;
+        self
     }
 }
 

@@ -33,77 +33,49 @@ pub fn statement<'s, 'a>(
     ensures kept { OnOk result (known variables.new ≡ known variables.old) }
 {
     let none = Quantified::Nothing;
+    let context = around.context(variables, &none);
     match x {
         Stmt::Block(_, all, _) => statements(around, variables, all),
         Stmt::Skip(_) => Ok(Findings::nothing()),
-        Stmt::Declare(span, ty, _, first) => {
-            let context = around.context(variables, &none);
-            Ok(declaration(context, *span, ty, first))
-        }
-        Stmt::Assign(span, change) => {
-            let context = around.context(variables, &none);
-            Ok(assign_statement(context, *span, change))
-        }
-        Stmt::Call(span, called) => {
-            let context = around.context(variables, &none);
-            Ok(call_statement(context, *span, called))
-        }
+        Stmt::Declare(span, ty, _, first) => Ok(declaration(context, *span, ty, first)),
+        Stmt::Assign(span, change) => Ok(assign_statement(context, *span, change)),
+        Stmt::Call(span, called) => Ok(call_statement(context, *span, called)),
         Stmt::If(span, test, yes) => {
-            let front = if_front(around.context(variables, &none), *span, test);
+            let front = if_front(context, *span, test);
             let inner = statement(around, variables, yes)?;
             Ok(front.then(inner))
         }
         Stmt::IfElse(span, test, first, second) => {
-            let front = if_front(around.context(variables, &none), *span, test);
+            let front = if_front(context, *span, test);
             let yes = statement(around, variables, first)?;
             let no = statement(around, variables, second)?;
             Ok(front.then(yes.then(no)))
         }
         Stmt::While(span, test, invariants, body) => {
-            let context = around.context(variables, &none);
             let front = while_front(context, *span, test, invariants);
             let inner = statement(around, variables, body)?;
             Ok(front.then(inner))
         }
         Stmt::Do(span, invariants, body, _, test) => {
-            let front = do_front(around.context(variables, &none), *span, invariants);
+            let front = do_front(context, *span, invariants);
             let inner = statement(around, variables, body)?;
             let condition = expression(around.context(variables, &none), test).found;
             Ok(front.then(inner.then(condition)))
         }
         Stmt::For(span, before, test, after, invariants, body) => {
-            let context = around.context(variables, &none);
             let front = for_front(context, *span, before, test, after, invariants);
             let inner = statement(around, variables, body)?;
             Ok(front.then(inner))
         }
-        Stmt::Return(span, value) => {
-            let context = around.context(variables, &none);
-            Ok(return_statement(context, *span, value))
-        }
-        Stmt::Spawn(span, called) => {
-            let context = around.context(variables, &none);
-            Ok(spawn_statement(context, *span, called))
-        }
-        Stmt::Free(span, pointer) => {
-            let context = around.context(variables, &none);
-            Ok(free_statement(context, *span, pointer))
-        }
-        Stmt::Assert(span, property) => {
-            let context = around.context(variables, &none);
-            Ok(assertion(context, *span, property))
-        }
+        Stmt::Return(span, value) => Ok(return_statement(context, *span, value)),
+        Stmt::Spawn(span, called) => Ok(spawn_statement(context, *span, called)),
+        Stmt::Free(span, pointer) => Ok(free_statement(context, *span, pointer)),
+        Stmt::Assert(span, property) => Ok(assertion(context, *span, property)),
         Stmt::Ghost(_, inner) => ghost_statement(around.as_ghost(), variables, inner),
-        Stmt::Wrap(span, object) => {
-            let context = around.context(variables, &none);
-            Ok(wrap_statement(context, *span, object))
-        }
-        Stmt::Unwrap(span, object) => {
-            let context = around.context(variables, &none);
-            Ok(wrap_statement(context, *span, object))
-        }
+        Stmt::Wrap(span, object) => Ok(wrap_statement(context, *span, object)),
+        Stmt::Unwrap(span, object) => Ok(wrap_statement(context, *span, object)),
         Stmt::Unwrapping(span, object, all, _) => {
-            let front = wrap_statement(around.context(variables, &none), *span, object);
+            let front = wrap_statement(context, *span, object);
             let inner = statements(around.inside_unwrapping(), variables, all)?;
             Ok(front.then(inner))
         }

@@ -36,29 +36,29 @@ expression-returns-in-Group t c =
 
 pub expression-returns-in-Field : goal.expression-returns-in-Field
 expression-returns-in-Field t c =
-    c.field.ensures ∙ (ap (j.field (context c.args.context) c.in-Field.span (id c.in-Field.named)) (part _ _ _ _ _ c.expression-inner-in-Field.ensures c.deref-in-Field.ensures c.deeper.ensures) ∙ of_form (context c.args.context) c.args.x.now _ _ c.in-Field.is (field_judged (context c.args.context) c.in-Field.span (exp c.in-Field.left.value) (id c.in-Field.named)))
+    c.field.ensures ∙ (ap (j.field (context c.args.context) c.in-Field.span (id c.in-Field.named)) (part _ _ _ _ _ c.expression-inner-in-Field.ensures c.deref-in-Field.ensures c.deeper-inside.ensures) ∙ of_form (context c.args.context) c.args.x.now _ _ c.in-Field.is (field_judged (context c.args.context) c.in-Field.span (exp c.in-Field.left.value) (id c.in-Field.named)))
 
 pub expression-returns-in-Status : goal.expression-returns-in-Status
 expression-returns-in-Status t c =
     let s = c.in-Status in
     c.status.ensures ∙ (ap (λ (w : Expr). j.status (context c.args.context) s.span (exp w) s.place s.which (judged c.expression-inner-in-Status.result)) c.deref-in-Status-2.ensures
-    ∙ (ap (j.status (context c.args.context) s.span (exp s.left.value) s.place s.which) (part _ _ _ _ _ c.expression-inner-in-Status.ensures c.deref-in-Status.ensures c.deeper-in-Status.ensures) ∙ of_form (context c.args.context) c.args.x.now _ _ c.in-Status.is (status_judged (context c.args.context) s.span (exp s.left.value) s.place s.which)))
+    ∙ (ap (j.status (context c.args.context) s.span (exp s.left.value) s.place s.which) (part _ _ _ _ _ c.expression-inner-in-Status.ensures c.deref-in-Status.ensures c.deeper-inside.ensures) ∙ of_form (context c.args.context) c.args.x.now _ _ c.in-Status.is (status_judged (context c.args.context) s.span (exp s.left.value) s.place s.which)))
 
 pub expression-returns-in-Owns : goal.expression-returns-in-Owns
 expression-returns-in-Owns t c =
     let s = c.in-Owns in
     c.owns.ensures ∙ (ap (λ (w : Expr). j.owns (context c.args.context) s.span (exp w) s.place (judged c.expression-inner-in-Owns.result)) c.deref-in-Owns-2.ensures
-    ∙ (ap (j.owns (context c.args.context) s.span (exp s.left.value) s.place) (part _ _ _ _ _ c.expression-inner-in-Owns.ensures c.deref-in-Owns.ensures c.deeper-in-Owns.ensures) ∙ of_form (context c.args.context) c.args.x.now _ _ c.in-Owns.is (owns_judged (context c.args.context) s.span (exp s.left.value) s.place)))
+    ∙ (ap (j.owns (context c.args.context) s.span (exp s.left.value) s.place) (part _ _ _ _ _ c.expression-inner-in-Owns.ensures c.deref-in-Owns.ensures c.deeper-inside.ensures) ∙ of_form (context c.args.context) c.args.x.now _ _ c.in-Owns.is (owns_judged (context c.args.context) s.span (exp s.left.value) s.place)))
 
 pub expression-returns-in-Unary : goal.expression-returns-in-Unary
 expression-returns-in-Unary t c =
-    c.unary.ensures ∙ (ap (j.unary c.in-Unary.span c.in-Unary.operator) (part _ _ _ _ _ c.expression-inner-in-Unary.ensures c.deref-in-Unary.ensures c.deeper-in-Unary.ensures) ∙ of_form (context c.args.context) c.args.x.now _ _ c.in-Unary.is (unary_judged (context c.args.context) c.in-Unary.span c.in-Unary.operator (exp c.in-Unary.operand.value)))
+    c.unary.ensures ∙ (ap (j.unary c.in-Unary.span c.in-Unary.operator) (part _ _ _ _ _ c.expression-inner-in-Unary.ensures c.deref-in-Unary.ensures c.deeper-inside.ensures) ∙ of_form (context c.args.context) c.args.x.now _ _ c.in-Unary.is (unary_judged (context c.args.context) c.in-Unary.span c.in-Unary.operator (exp c.in-Unary.operand.value)))
 
 pub expression-returns-in-Binary : goal.expression-returns-in-Binary
 expression-returns-in-Binary t c =
     let s = c.in-Binary in
-    let first = part _ _ _ _ _ c.expression-first.ensures c.deref-in-Binary.ensures c.operand-inside.ensures in
-    let second = part _ _ _ _ _ c.expression-second.ensures c.deref-in-Binary-2.ensures c.operand-inside.ensures in
+    let first = part _ _ _ _ _ c.expression-first.ensures c.deref-in-Binary.ensures c.operand-around_operands.ensures in
+    let second = part _ _ _ _ _ c.expression-second.ensures c.deref-in-Binary-2.ensures c.operand-around_operands.ensures in
     c.binary.ensures ∙ (ap (λ (k : Judged). j.binary s.span s.operator k (judged c.expression-second.result)) first ∙ (ap (j.binary s.span s.operator (judge (operand s.operator (context c.args.context)) (exp s.left.value))) second ∙ of_form (context c.args.context) c.args.x.now _ _ c.in-Binary.is (binary_judged (context c.args.context) s.span s.operator (exp s.left.value) (exp s.right.value))))
 
 pub expression-returns-in-Conditional : goal.expression-returns-in-Conditional
@@ -81,14 +81,14 @@ pub expression-returns-in-Mine : goal.expression-returns-in-Mine
 expression-returns-in-Mine t c =
     let s = c.in-Mine in
     let all = c.deref-in-Mine.result.now in
-    c.mine.ensures ∙ (ap (j.mine (context c.args.context) s.span) (c.row-inner.ensures ∙ ap (λ (w : Context). j.row w (exps all)) c.deeper-in-Mine.ensures)
+    c.mine.ensures ∙ (ap (j.mine (context c.args.context) s.span) (c.row-inner.ensures ∙ ap (λ (w : Context). j.row w (exps all)) c.deeper-inside.ensures)
     ∙ sym (ap (judge (context c.args.context)) (mine c.args.x.now s.span s.arguments all s.is c.deref-in-Mine.ensures.value) ∙ mine_judged (context c.args.context) s.span (exps all)))
 
 pub expression-returns-in-ClaimsObject : goal.expression-returns-in-ClaimsObject
 expression-returns-in-ClaimsObject t c =
     let s = c.in-ClaimsObject in
-    let first = part _ _ _ _ _ c.expression-first-in-ClaimsObject.ensures c.deref-in-ClaimsObject.ensures c.deeper-inside-in-ClaimsObject.ensures in
-    let second = part _ _ _ _ _ c.expression-second-in-ClaimsObject.ensures c.deref-in-ClaimsObject-2.ensures c.deeper-inside-in-ClaimsObject.ensures in
+    let first = part _ _ _ _ _ c.expression-first-in-ClaimsObject.ensures c.deref-in-ClaimsObject.ensures c.deeper-inside.ensures in
+    let second = part _ _ _ _ _ c.expression-second-in-ClaimsObject.ensures c.deref-in-ClaimsObject-2.ensures c.deeper-inside.ensures in
     c.claims_object.ensures ∙ (ap (λ (w : Expr). j.claims_object (exp w) (exp c.deref-in-ClaimsObject-4.result.now) (judged c.expression-first-in-ClaimsObject.result) (judged c.expression-second-in-ClaimsObject.result)) c.deref-in-ClaimsObject-3.ensures
     ∙ (ap (λ (w : Expr). j.claims_object (exp s.claim.value) (exp w) (judged c.expression-first-in-ClaimsObject.result) (judged c.expression-second-in-ClaimsObject.result)) c.deref-in-ClaimsObject-4.ensures
     ∙ (ap (λ (k : Judged). j.claims_object (exp s.claim.value) (exp s.object.value) k (judged c.expression-second-in-ClaimsObject.result)) first
@@ -97,7 +97,7 @@ expression-returns-in-ClaimsObject t c =
 pub expression-returns-in-Claims : goal.expression-returns-in-Claims
 expression-returns-in-Claims t c =
     let s = c.in-Claims in
-    let first = part _ _ _ _ _ c.expression-first-in-Claims.ensures c.deref-in-Claims.ensures c.deeper-in-Claims.ensures in
+    let first = part _ _ _ _ _ c.expression-first-in-Claims.ensures c.deref-in-Claims.ensures c.deeper-inside.ensures in
     let second = part _ _ _ _ _ c.expression-second-in-Claims.ensures c.deref-in-Claims-2.ensures c.inside_claims.ensures in
     c.claims.ensures ∙ (ap (λ (w : Expr). j.claims (exp w) (judged c.expression-first-in-Claims.result) (judged c.expression-second-in-Claims.result)) c.deref-in-Claims-3.ensures
     ∙ (ap (λ (k : Judged). j.claims (exp s.claim.value) k (judged c.expression-second-in-Claims.result)) first
@@ -106,7 +106,7 @@ expression-returns-in-Claims t c =
 pub expression-returns-in-Quantified : goal.expression-returns-in-Quantified
 expression-returns-in-Quantified t c =
     let s = c.in-Quantified in
-    let body = part _ _ _ _ _ c.expression-inner-in-Quantified.ensures c.deref-in-Quantified.ensures c.quantified-inside.ensures in
+    let body = part _ _ _ _ _ c.expression-inner-in-Quantified.ensures c.deref-in-Quantified.ensures c.quantified-in_body.ensures in
     c.quantified.ensures ∙ (ap (λ (w : Expr). j.quantified (context c.args.context) s.span s.quantifier (ty s.ty) (id s.variable) (exp w) (judged c.expression-inner-in-Quantified.result)) c.deref-in-Quantified-2.ensures
     ∙ (ap (j.quantified (context c.args.context) s.span s.quantifier (ty s.ty) (id s.variable) (exp s.body.value)) body ∙ of_form (context c.args.context) c.args.x.now _ _ c.in-Quantified.is (quantified_judged (context c.args.context) s.span s.quantifier (ty s.ty) (id s.variable) (exp s.body.value))))
 

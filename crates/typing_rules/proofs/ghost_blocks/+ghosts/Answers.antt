@@ -39,34 +39,34 @@ ghost_statement-returns-in-Declare-clause-found t c =
 pub ghost_statement-returns-in-Assign-clause-found : goal.ghost_statement-returns-in-Assign-clause-found
 ghost_statement-returns-in-Assign-clause-found t c =
     let s = c.in-Assign in
-    c.ghost_assignment.ensures ∙ (ap (λ (w : Context). b.ghost_assignment w (view.exp s.left) (view.ghost_rhs s.value)) c.context-context-in-Assign.ensures ∙ of_form (within (fixed c.args.around) (known c.args.variables.now)) c.args.x.now _ _ c.in-Assign.is (assign_is (within (fixed c.args.around) (known c.args.variables.now)) s.field-0 (view.exp s.left) s.field-2 (view.ghost_rhs s.value)))
+    c.ghost_assignment.ensures ∙ (ap (λ (w : Context). b.ghost_assignment w (view.exp s.left) (view.ghost_rhs s.value)) c.context-context.ensures ∙ of_form (within (fixed c.args.around) (known c.args.variables.now)) c.args.x.now _ _ c.in-Assign.is (assign_is (within (fixed c.args.around) (known c.args.variables.now)) s.field-0 (view.exp s.left) s.field-2 (view.ghost_rhs s.value)))
 
 pub ghost_statement-returns-in-Owns-clause-found : goal.ghost_statement-returns-in-Owns-clause-found
 ghost_statement-returns-in-Owns-clause-found t c =
     let s = c.in-Owns in
-    c.owned_set_change.ensures ∙ (ap (λ (w : Context). b.owned_set_change w (view.exp s.left) (view.owns s.change)) c.context-context-in-Owns.ensures ∙ of_form (within (fixed c.args.around) (known c.args.variables.now)) c.args.x.now _ _ c.in-Owns.is (owns_is (within (fixed c.args.around) (known c.args.variables.now)) s.field-0 (view.exp s.left) s.field-2 (view.owns s.change)))
+    c.owned_set_change.ensures ∙ (ap (λ (w : Context). b.owned_set_change w (view.exp s.left) (view.owns s.change)) c.context-context.ensures ∙ of_form (within (fixed c.args.around) (known c.args.variables.now)) c.args.x.now _ _ c.in-Owns.is (owns_is (within (fixed c.args.around) (known c.args.variables.now)) s.field-0 (view.exp s.left) s.field-2 (view.owns s.change)))
 
 pub ghost_statement-returns-in-DestroyClaim-clause-found : goal.ghost_statement-returns-in-DestroyClaim-clause-found
 ghost_statement-returns-in-DestroyClaim-clause-found t c =
     let s = c.in-DestroyClaim in
-    c.claim_end.ensures ∙ (ap (λ (w : Context). b.claim_end w (view.exp s.claim) (view.exps c.deref-in-DestroyClaim.result.now)) c.context-context-in-DestroyClaim.ensures
+    c.claim_end.ensures ∙ (ap (λ (w : Context). b.claim_end w (view.exp s.claim) (view.exps c.deref-in-DestroyClaim.result.now)) c.context-context.ensures
     ∙ (ap (λ (xs : List Expr). b.claim_end (within (fixed c.args.around) (known c.args.variables.now)) (view.exp s.claim) (view.exps xs)) c.deref-in-DestroyClaim.ensures.value ∙ of_form (within (fixed c.args.around) (known c.args.variables.now)) c.args.x.now _ _ c.in-DestroyClaim.is (destroy_is (within (fixed c.args.around) (known c.args.variables.now)) s.field-0 (view.exp s.claim) (view.exps s.objects.items))))
 
 pub ghost_statement-returns-in-Wrap-clause-found : goal.ghost_statement-returns-in-Wrap-clause-found
 ghost_statement-returns-in-Wrap-clause-found t c =
     let s = c.in-Wrap in
-    c.ghost_wrap.ensures ∙ (ap (λ (w : Context). b.wrapping w s.span (view.exp s.object)) c.context-context-in-Wrap.ensures ∙ of_form (within (fixed c.args.around) (known c.args.variables.now)) c.args.x.now _ _ c.in-Wrap.is (wrap_is (within (fixed c.args.around) (known c.args.variables.now)) s.span (view.exp s.object)))
+    c.ghost_wrap.ensures ∙ (ap (λ (w : Context). b.wrapping w s.span (view.exp s.object)) c.context-context.ensures ∙ of_form (within (fixed c.args.around) (known c.args.variables.now)) c.args.x.now _ _ c.in-Wrap.is (wrap_is (within (fixed c.args.around) (known c.args.variables.now)) s.span (view.exp s.object)))
 
 pub ghost_statement-returns-in-Unwrap-clause-found : goal.ghost_statement-returns-in-Unwrap-clause-found
 ghost_statement-returns-in-Unwrap-clause-found t c =
     let s = c.in-Unwrap in
-    c.ghost_wrap-in-Unwrap.ensures ∙ (ap (λ (w : Context). b.wrapping w s.span (view.exp s.object)) c.context-context-in-Unwrap.ensures ∙ of_form (within (fixed c.args.around) (known c.args.variables.now)) c.args.x.now _ _ c.in-Unwrap.is (unwrap_is (within (fixed c.args.around) (known c.args.variables.now)) s.span (view.exp s.object)))
+    c.ghost_wrap-in-Unwrap.ensures ∙ (ap (λ (w : Context). b.wrapping w s.span (view.exp s.object)) c.context-context.ensures ∙ of_form (within (fixed c.args.around) (known c.args.variables.now)) c.args.x.now _ _ c.in-Unwrap.is (unwrap_is (within (fixed c.args.around) (known c.args.variables.now)) s.span (view.exp s.object)))
 
 pub ghost_statement-returns-in_ok-inner-in-If-clause-found : goal.ghost_statement-returns-in_ok-inner-in-If-clause-found
 ghost_statement-returns-in_ok-inner-in-If-clause-found t c =
     let k = (within (fixed c.args.around) (known c.args.variables.now)) in
     let s = c.in-If in
-    let test = ap (λ (j : Judged). j.found) c.expression.ensures ∙ ap (λ (w : Context). found (expression w (view.exp s.test))) c.context.ensures in
+    let test = ap (λ (j : Judged). j.found) c.expression.ensures ∙ ap (λ (w : Context). found (expression w (view.exp s.test))) c.context-context.ensures in
     let inner = c.in_ok-inner-in-If.ensures.found ∙ ap (λ (z : GhostStmt). found (ghost_pieces k (view.ghost z))) c.deref-in-If.ensures in
     c.then.ensures ∙ (ap (λ (f : Found). joined f (findings c.in_ok-inner-in-If.inner)) test ∙ (ap (joined (found (expression k (view.exp s.test)))) inner
     ∙ of_form k c.args.x.now _ _ s.is (if_is k s.field-0 (view.exp s.test) (view.ghost s.yes.value))))
@@ -75,7 +75,7 @@ pub ghost_statement-returns-in_ok-no-in-IfElse-clause-found : goal.ghost_stateme
 ghost_statement-returns-in_ok-no-in-IfElse-clause-found t c =
     let k = (within (fixed c.args.around) (known c.args.variables.now)) in
     let s = c.in-IfElse in
-    let test = ap (λ (j : Judged). j.found) c.expression-in-IfElse.ensures ∙ ap (λ (w : Context). found (expression w (view.exp s.test))) c.context-in-IfElse.ensures in
+    let test = ap (λ (j : Judged). j.found) c.expression-in-IfElse.ensures ∙ ap (λ (w : Context). found (expression w (view.exp s.test))) c.context-context.ensures in
     let yes = c.in_ok-yes-in-IfElse.ensures.found ∙ ap (λ (z : GhostStmt). found (ghost_pieces k (view.ghost z))) c.deref-in-IfElse.ensures in
     let no = c.in_ok-no-in-IfElse.ensures.found ∙ (ap (λ (vs : List Variable). found (ghost_pieces (within (fixed c.args.around) vs) (view.ghost c.deref-in-IfElse-2.result.now))) c.in_ok-yes-in-IfElse.ensures.kept
     ∙ ap (λ (z : GhostStmt). found (ghost_pieces k (view.ghost z))) c.deref-in-IfElse-2.ensures) in

@@ -43,42 +43,42 @@ statement-returns-in-Declare-clause-found t c =
 pub statement-returns-in-Assign-clause-found : goal.statement-returns-in-Assign-clause-found
 statement-returns-in-Assign-clause-found t c =
     let s = c.in-Assign in
-    c.assign_statement.ensures ∙ (ap (λ (w : Context). b.assign_statement w s.span (view.assignment s.change)) c.context-context-in-Assign.ensures ∙ of_form (within (fixed c.args.around) (known c.args.variables.now)) c.args.x.now _ _ c.in-Assign.is (assign_is (within (fixed c.args.around) (known c.args.variables.now)) s.span (view.assignment s.change)))
+    c.assign_statement.ensures ∙ (ap (λ (w : Context). b.assign_statement w s.span (view.assignment s.change)) c.context-context.ensures ∙ of_form (within (fixed c.args.around) (known c.args.variables.now)) c.args.x.now _ _ c.in-Assign.is (assign_is (within (fixed c.args.around) (known c.args.variables.now)) s.span (view.assignment s.change)))
 
 pub statement-returns-in-Call-clause-found : goal.statement-returns-in-Call-clause-found
 statement-returns-in-Call-clause-found t c =
     let s = c.in-Call in
-    c.call_statement.ensures ∙ (ap (λ (w : Context). b.call_statement w s.span (view.call s.called)) c.context-context-in-Call.ensures ∙ of_form (within (fixed c.args.around) (known c.args.variables.now)) c.args.x.now _ _ c.in-Call.is (call_is (within (fixed c.args.around) (known c.args.variables.now)) s.span (view.call s.called)))
+    c.call_statement.ensures ∙ (ap (λ (w : Context). b.call_statement w s.span (view.call s.called)) c.context-context.ensures ∙ of_form (within (fixed c.args.around) (known c.args.variables.now)) c.args.x.now _ _ c.in-Call.is (call_is (within (fixed c.args.around) (known c.args.variables.now)) s.span (view.call s.called)))
 
 pub statement-returns-in-Return-clause-found : goal.statement-returns-in-Return-clause-found
 statement-returns-in-Return-clause-found t c =
     let s = c.in-Return in
-    c.return_statement.ensures ∙ (ap (λ (w : Context). b.return_statement w s.span (option_map view.exp s.value)) c.context-context-in-Return.ensures ∙ of_form (within (fixed c.args.around) (known c.args.variables.now)) c.args.x.now _ _ c.in-Return.is (return_is (within (fixed c.args.around) (known c.args.variables.now)) s.span (option_map view.exp s.value)))
+    c.return_statement.ensures ∙ (ap (λ (w : Context). b.return_statement w s.span (option_map view.exp s.value)) c.context-context.ensures ∙ of_form (within (fixed c.args.around) (known c.args.variables.now)) c.args.x.now _ _ c.in-Return.is (return_is (within (fixed c.args.around) (known c.args.variables.now)) s.span (option_map view.exp s.value)))
 
 pub statement-returns-in-Spawn-clause-found : goal.statement-returns-in-Spawn-clause-found
 statement-returns-in-Spawn-clause-found t c =
     let s = c.in-Spawn in
-    c.spawn_statement.ensures ∙ (ap (λ (w : Context). b.spawn_statement w s.span (view.call s.called)) c.context-context-in-Spawn.ensures ∙ of_form (within (fixed c.args.around) (known c.args.variables.now)) c.args.x.now _ _ c.in-Spawn.is (spawn_is (within (fixed c.args.around) (known c.args.variables.now)) s.span (view.call s.called)))
+    c.spawn_statement.ensures ∙ (ap (λ (w : Context). b.spawn_statement w s.span (view.call s.called)) c.context-context.ensures ∙ of_form (within (fixed c.args.around) (known c.args.variables.now)) c.args.x.now _ _ c.in-Spawn.is (spawn_is (within (fixed c.args.around) (known c.args.variables.now)) s.span (view.call s.called)))
 
 pub statement-returns-in-Free-clause-found : goal.statement-returns-in-Free-clause-found
 statement-returns-in-Free-clause-found t c =
     let s = c.in-Free in
-    c.free_statement.ensures ∙ (ap (λ (w : Context). b.free_statement w s.span (view.exp s.pointer)) c.context-context-in-Free.ensures ∙ of_form (within (fixed c.args.around) (known c.args.variables.now)) c.args.x.now _ _ c.in-Free.is (free_is (within (fixed c.args.around) (known c.args.variables.now)) s.span (view.exp s.pointer)))
+    c.free_statement.ensures ∙ (ap (λ (w : Context). b.free_statement w s.span (view.exp s.pointer)) c.context-context.ensures ∙ of_form (within (fixed c.args.around) (known c.args.variables.now)) c.args.x.now _ _ c.in-Free.is (free_is (within (fixed c.args.around) (known c.args.variables.now)) s.span (view.exp s.pointer)))
 
 pub statement-returns-in-Assert-clause-found : goal.statement-returns-in-Assert-clause-found
 statement-returns-in-Assert-clause-found t c =
     let s = c.in-Assert in
-    c.assertion.ensures ∙ (ap (λ (w : Context). b.assertion w s.span (view.exp s.property)) c.context-context-in-Assert.ensures ∙ of_form (within (fixed c.args.around) (known c.args.variables.now)) c.args.x.now _ _ c.in-Assert.is (assert_is (within (fixed c.args.around) (known c.args.variables.now)) s.span (view.exp s.property)))
+    c.assertion.ensures ∙ (ap (λ (w : Context). b.assertion w s.span (view.exp s.property)) c.context-context.ensures ∙ of_form (within (fixed c.args.around) (known c.args.variables.now)) c.args.x.now _ _ c.in-Assert.is (assert_is (within (fixed c.args.around) (known c.args.variables.now)) s.span (view.exp s.property)))
 
 pub statement-returns-in-Wrap-clause-found : goal.statement-returns-in-Wrap-clause-found
 statement-returns-in-Wrap-clause-found t c =
     let s = c.in-Wrap in
-    c.wrap_statement.ensures ∙ (ap (λ (w : Context). b.wrap_statement w s.span (view.exp s.object)) c.context-context-in-Wrap.ensures ∙ of_form (within (fixed c.args.around) (known c.args.variables.now)) c.args.x.now _ _ c.in-Wrap.is (wrap_is (within (fixed c.args.around) (known c.args.variables.now)) s.span (view.exp s.object)))
+    c.wrap_statement.ensures ∙ (ap (λ (w : Context). b.wrap_statement w s.span (view.exp s.object)) c.context-context.ensures ∙ of_form (within (fixed c.args.around) (known c.args.variables.now)) c.args.x.now _ _ c.in-Wrap.is (wrap_is (within (fixed c.args.around) (known c.args.variables.now)) s.span (view.exp s.object)))
 
 pub statement-returns-in-Unwrap-clause-found : goal.statement-returns-in-Unwrap-clause-found
 statement-returns-in-Unwrap-clause-found t c =
     let s = c.in-Unwrap in
-    c.wrap_statement-in-Unwrap.ensures ∙ (ap (λ (w : Context). b.wrap_statement w s.span (view.exp s.object)) c.context-context-in-Unwrap.ensures ∙ of_form (within (fixed c.args.around) (known c.args.variables.now)) c.args.x.now _ _ c.in-Unwrap.is (unwrap_is (within (fixed c.args.around) (known c.args.variables.now)) s.span (view.exp s.object)))
+    c.wrap_statement-in-Unwrap.ensures ∙ (ap (λ (w : Context). b.wrap_statement w s.span (view.exp s.object)) c.context-context.ensures ∙ of_form (within (fixed c.args.around) (known c.args.variables.now)) c.args.x.now _ _ c.in-Unwrap.is (unwrap_is (within (fixed c.args.around) (known c.args.variables.now)) s.span (view.exp s.object)))
 
 pub statement-returns-in-Ghost-clause-found : goal.statement-returns-in-Ghost-clause-found
 statement-returns-in-Ghost-clause-found t c =
@@ -95,7 +95,7 @@ statement-returns-in_ok-inner-in-If-clause-found t c =
     let vs = known c.args.variables.now in
     let k = within f vs in
     let s = c.in-If in
-    let front = c.if_front-front.ensures ∙ ap (λ (w : Context). b.if_front w s.span (view.exp s.test)) c.context.ensures in
+    let front = c.if_front-front.ensures ∙ ap (λ (w : Context). b.if_front w s.span (view.exp s.test)) c.context-context.ensures in
     let inner = c.in_ok-inner-in-If.ensures.found ∙ ap (λ (z : Stmt). found (statement_pieces k (view.stm z))) c.deref-in-If.ensures in
     c.then.ensures ∙ (ap (λ (z : Found). joined z (findings c.in_ok-inner-in-If.inner)) front ∙ (ap (joined (b.if_front k s.span (view.exp s.test))) inner
     ∙ of_form k c.args.x.now _ _ s.is (if_fronted k s.span (view.exp s.test) (view.stm s.yes.value))))
@@ -106,7 +106,7 @@ statement-returns-in_ok-no-in-IfElse-clause-found t c =
     let vs = known c.args.variables.now in
     let k = within f vs in
     let s = c.in-IfElse in
-    let front = c.if_front-front-in-IfElse.ensures ∙ ap (λ (w : Context). b.if_front w s.span (view.exp s.test)) c.context-in-IfElse.ensures in
+    let front = c.if_front-front-in-IfElse.ensures ∙ ap (λ (w : Context). b.if_front w s.span (view.exp s.test)) c.context-context.ensures in
     let yes = c.in_ok-yes-in-IfElse.ensures.found ∙ ap (λ (z : Stmt). found (statement_pieces k (view.stm z))) c.deref-in-IfElse.ensures in
     let no = c.in_ok-no-in-IfElse.ensures.found ∙ (ap (λ (us : List Variable). found (statement_pieces (within f us) (view.stm c.deref-in-IfElse-2.result.now))) c.in_ok-yes-in-IfElse.ensures.kept
     ∙ ap (λ (z : Stmt). found (statement_pieces k (view.stm z))) c.deref-in-IfElse-2.ensures) in
@@ -120,7 +120,7 @@ statement-returns-in_ok-inner-in-While-clause-found t c =
     let vs = known c.args.variables.now in
     let k = within f vs in
     let s = c.in-While in
-    let front = c.while_front-front.ensures ∙ (ap (λ (w : Context). b.while_front w s.span (view.exp s.test) (map view.invariant c.deref-in-While.result.now)) c.context-context-in-While.ensures
+    let front = c.while_front-front.ensures ∙ (ap (λ (w : Context). b.while_front w s.span (view.exp s.test) (map view.invariant c.deref-in-While.result.now)) c.context-context.ensures
     ∙ ap (λ (is : List Invariant). b.while_front k s.span (view.exp s.test) (map view.invariant is)) c.deref-in-While.ensures.value) in
     let inner = c.in_ok-inner-in-While.ensures.found ∙ ap (λ (z : Stmt). found (statement_pieces k (view.stm z))) c.deref-in-While-2.ensures in
     c.then-in-While.ensures ∙ (ap (λ (z : Found). joined z (findings c.in_ok-inner-in-While.inner)) front ∙ (ap (joined (b.while_front k s.span (view.exp s.test) (map view.invariant s.invariants.items))) inner
@@ -133,10 +133,10 @@ statement-returns-in_ok-inner-in-Do-clause-found t c =
     let k = within f vs in
     let s = c.in-Do in
     let is = map view.invariant s.invariants.items in
-    let front = c.do_front-front.ensures ∙ (ap (λ (w : Context). b.do_front w s.span (map view.invariant c.deref-in-Do.result.now)) c.context-in-Do.ensures
+    let front = c.do_front-front.ensures ∙ (ap (λ (w : Context). b.do_front w s.span (map view.invariant c.deref-in-Do.result.now)) c.context-context.ensures
     ∙ ap (λ (xs : List Invariant). b.do_front k s.span (map view.invariant xs)) c.deref-in-Do.ensures.value) in
     let inner = c.in_ok-inner-in-Do.ensures.found ∙ ap (λ (z : Stmt). found (statement_pieces k (view.stm z))) c.deref-in-Do-2.ensures in
-    let test = ap (λ (j : Judged). j.found) c.expression.ensures ∙ ap (λ (w : Context). found (expression w (view.exp s.test))) (c.context-in-Do-2.ensures ∙ ap (λ (us : List Variable). within f us) c.in_ok-inner-in-Do.ensures.kept) in
+    let test = ap (λ (j : Judged). j.found) c.expression.ensures ∙ ap (λ (w : Context). found (expression w (view.exp s.test))) (c.context.ensures ∙ ap (λ (us : List Variable). within f us) c.in_ok-inner-in-Do.ensures.kept) in
     c.then-in-Do-2.ensures ∙ (ap (λ (z : Found). joined z (findings c.then-in-Do.result)) front
     ∙ (ap (joined (b.do_front k s.span is)) (c.then-in-Do.ensures ∙ (ap (λ (z : Found). joined z (findings c.expression.result.found)) inner ∙ ap (joined (found (statement_pieces k (view.stm s.body.value)))) test))
     ∙ of_form k c.args.x.now _ _ s.is (do_fronted k s.span is (view.stm s.body.value) s.field-3 (view.exp s.test))))
@@ -149,7 +149,7 @@ statement-returns-in_ok-inner-in-For-clause-found t c =
     let s = c.in-For in
     let before = option_map view.assignment s.before in
     let after = option_map view.assignment s.after in
-    let front = c.for_front-front.ensures ∙ (ap (λ (w : Context). b.for_front w s.span before (view.exp s.test) after (map view.invariant c.deref-in-For.result.now)) c.context-context-in-For.ensures
+    let front = c.for_front-front.ensures ∙ (ap (λ (w : Context). b.for_front w s.span before (view.exp s.test) after (map view.invariant c.deref-in-For.result.now)) c.context-context.ensures
     ∙ ap (λ (is : List Invariant). b.for_front k s.span before (view.exp s.test) after (map view.invariant is)) c.deref-in-For.ensures.value) in
     let inner = c.in_ok-inner-in-For.ensures.found ∙ ap (λ (z : Stmt). found (statement_pieces k (view.stm z))) c.deref-in-For-2.ensures in
     c.then-in-For.ensures ∙ (ap (λ (z : Found). joined z (findings c.in_ok-inner-in-For.inner)) front ∙ (ap (joined (b.for_front k s.span before (view.exp s.test) after (map view.invariant s.invariants.items))) inner
@@ -163,7 +163,7 @@ statement-returns-in_ok-inner-in-Unwrapping-clause-found t c =
     let s = c.in-Unwrapping in
     let items = c.deref-in-Unwrapping.result.now in
     let ss = stms_of (map view.stm items) in
-    let front = c.wrap_statement-front.ensures ∙ ap (λ (w : Context). b.wrap_statement w s.span (view.exp s.object)) c.context-in-Unwrapping.ensures in
+    let front = c.wrap_statement-front.ensures ∙ ap (λ (w : Context). b.wrap_statement w s.span (view.exp s.object)) c.context-context.ensures in
     let inner = c.in_ok-inner-in-Unwrapping.ensures.found ∙ ap (λ (z : Fixed). found (in_statements (within z vs) ss)) c.inside_unwrapping.ensures in
     let shown = ap (λ (z : Stm). found (statement_pieces k z)) (unwrapping_stm c.args.x.now s.span s.object s.all s.field-3 items s.is c.deref-in-Unwrapping.ensures.value) ∙ unwrapping_fronted k s.span (view.exp s.object) ss s.field-3 in
     c.then-in-Unwrapping.ensures ∙ (ap (λ (z : Found). joined z (findings c.in_ok-inner-in-Unwrapping.inner)) front ∙ (ap (joined (b.wrap_statement k s.span (view.exp s.object))) inner ∙ sym shown))
