@@ -3,6 +3,7 @@
 mod notation;
 mod world;
 
+use Gives::{At, Int, TooWide};
 use int_ranges::exact::Wide;
 use object_types::references::Ref;
 use object_types::shapes::Entry;
@@ -18,276 +19,286 @@ const BIG: i128 = i128::MAX;
 
 const LOW: i128 = i128::MIN;
 
-fn int(number: i128) -> Result<Value, EvalFault> {
-    Ok(Value::Int(number))
+/// What an expression gives: a number, the object of this type and serial number, or the fault with these two operands.
+#[derive(Clone, Copy)]
+enum Gives {
+    Int(i128),
+    At(u32, u32),
+    TooWide(i128, i128),
 }
 
-fn at(ty: u32, serial: u32) -> Result<Value, EvalFault> {
-    Ok(Value::Ref(Ref { ty, serial }))
-}
-
-fn wide(a: i128, b: i128) -> Result<Value, EvalFault> {
-    Err(EvalFault::Wide(Wide { a, b }))
+/// The value or the fault.
+fn wanted(gives: Gives) -> Result<Value, EvalFault> {
+    match gives {
+        Gives::Int(number) => Ok(Value::Int(number)),
+        Gives::At(ty, serial) => Ok(Value::Ref(Ref { ty, serial })),
+        Gives::TooWide(a, b) => Err(EvalFault::Wide(Wide { a, b })),
+    }
 }
 
 /// Each text has its value, or its fault.
-fn hold(
-    rt: &impl Abort,
-    alloc: Global,
-    rows: &[(&str, Result<Value, EvalFault>)],
-) -> Result<(), Fail> {
+fn hold(rt: &impl Abort, alloc: Global, rows: &[(&str, Gives)]) -> Result<(), Fail> {
     let world = World::new(alloc)?;
-    for (text, wanted) in rows {
+    for (text, gives) in rows {
         let e = notation::read(alloc, *text)?;
         let found = world.eval(&e);
-        assert_eq!(rt; &found, wanted, "{text}");
+        let seen = wanted(*gives);
+        assert_eq!(rt; found, seen, "{text}");
     }
     Ok(())
 }
 
+const WORDS_AND_NUMBERS: &[(&str, Gives)] = &[
+    ("7", Int(7)),
+    ("-170141183460469231731687303715884105728", Int(LOW)),
+    ("true", Int(1)),
+    ("false", Int(0)),
+    ("null", At(0, 0)),
+    ("x", Int(7)),
+    ("p", At(3, 1)),
+    ("y", Int(100)),
+    ("z", Int(0)),
+    ("q", At(0, 0)),
+    ("this", At(3, 1)),
+    ("me", At(1, 1)),
+    ("result", Int(42)),
+    ("! 5", Int(0)),
+    ("! null", Int(1)),
+    ("! a", Int(0)),
+];
+
 #[test]
 fn words_and_numbers(rt: HostRuntime) -> Result<(), Fail> {
-    let rows = [
-        ("7", int(7)),
-        ("-170141183460469231731687303715884105728", int(LOW)),
-        ("true", int(1)),
-        ("false", int(0)),
-        ("null", at(0, 0)),
-        ("x", int(7)),
-        ("p", at(3, 1)),
-        ("y", int(100)),
-        ("z", int(0)),
-        ("q", at(0, 0)),
-        ("this", at(3, 1)),
-        ("me", at(1, 1)),
-        ("result", int(42)),
-        ("! 5", int(0)),
-        ("! null", int(1)),
-        ("! a", int(0)),
-    ];
-    hold(&rt, rt.alloc(), &rows)
+    hold(&rt, rt.alloc(), WORDS_AND_NUMBERS)
 }
+
+const ARITHMETIC: &[(&str, Gives)] = &[
+    ("+ 2 3", Int(5)),
+    ("- 2 5", Int(-3)),
+    ("* -4 5", Int(-20)),
+    ("/ 7 2", Int(3)),
+    ("/ -7 2", Int(-3)),
+    ("/ 7 -2", Int(-3)),
+    ("% -7 2", Int(-1)),
+    ("% 7 -2", Int(1)),
+    ("/ 7 0", Int(0)),
+    ("% 7 0", Int(7)),
+    ("% -7 0", Int(-7)),
+    ("/ low -1", TooWide(LOW, -1)),
+    ("% low -1", Int(0)),
+    ("neg 5", Int(-5)),
+    ("neg low", TooWide(0, LOW)),
+    (
+        "neg big",
+        Int(-170_141_183_460_469_231_731_687_303_715_884_105_727),
+    ),
+    ("neg + big 1", TooWide(BIG, 1)),
+    ("+ big 1", TooWide(BIG, 1)),
+    ("- low 1", TooWide(LOW, 1)),
+    ("* big 2", TooWide(BIG, 2)),
+    ("* 2 big", TooWide(2, BIG)),
+    ("+ + big 1 - low 1", TooWide(BIG, 1)),
+    ("- 1 - low 1", TooWide(LOW, 1)),
+    ("- + big -1 -1", Int(BIG)),
+];
 
 #[test]
 fn arithmetic(rt: HostRuntime) -> Result<(), Fail> {
-    let rows = [
-        ("+ 2 3", int(5)),
-        ("- 2 5", int(-3)),
-        ("* -4 5", int(-20)),
-        ("/ 7 2", int(3)),
-        ("/ -7 2", int(-3)),
-        ("/ 7 -2", int(-3)),
-        ("% -7 2", int(-1)),
-        ("% 7 -2", int(1)),
-        ("/ 7 0", int(0)),
-        ("% 7 0", int(7)),
-        ("% -7 0", int(-7)),
-        ("/ low -1", wide(LOW, -1)),
-        ("% low -1", int(0)),
-        ("neg 5", int(-5)),
-        ("neg low", wide(0, LOW)),
-        (
-            "neg big",
-            int(-170_141_183_460_469_231_731_687_303_715_884_105_727),
-        ),
-        ("neg + big 1", wide(BIG, 1)),
-        ("+ big 1", wide(BIG, 1)),
-        ("- low 1", wide(LOW, 1)),
-        ("* big 2", wide(BIG, 2)),
-        ("* 2 big", wide(2, BIG)),
-        ("+ + big 1 - low 1", wide(BIG, 1)),
-        ("- 1 - low 1", wide(LOW, 1)),
-        ("- + big -1 -1", int(BIG)),
-    ];
-    hold(&rt, rt.alloc(), &rows)
+    hold(&rt, rt.alloc(), ARITHMETIC)
 }
+
+const COMPARISONS: &[(&str, Gives)] = &[
+    ("< 2 3", Int(1)),
+    ("< 3 3", Int(0)),
+    ("<= 3 3", Int(1)),
+    ("<= 4 3", Int(0)),
+    ("> 3 2", Int(1)),
+    ("> 2 2", Int(0)),
+    (">= 2 2", Int(1)),
+    (">= -3 2", Int(0)),
+    ("== -5 -5", Int(1)),
+    ("== 5 -5", Int(0)),
+    ("!= 2 2", Int(0)),
+    ("!= 2 3", Int(1)),
+    ("== p a", Int(1)),
+    ("!= p b", Int(1)),
+    ("== null q", Int(1)),
+    ("== null 0", Int(0)),
+    ("== + big 1 - low 1", TooWide(BIG, 1)),
+    ("< 1 - low 1", TooWide(LOW, 1)),
+];
 
 #[test]
 fn comparisons(rt: HostRuntime) -> Result<(), Fail> {
-    let rows = [
-        ("< 2 3", int(1)),
-        ("< 3 3", int(0)),
-        ("<= 3 3", int(1)),
-        ("<= 4 3", int(0)),
-        ("> 3 2", int(1)),
-        ("> 2 2", int(0)),
-        (">= 2 2", int(1)),
-        (">= -3 2", int(0)),
-        ("== -5 -5", int(1)),
-        ("== 5 -5", int(0)),
-        ("!= 2 2", int(0)),
-        ("!= 2 3", int(1)),
-        ("== p a", int(1)),
-        ("!= p b", int(1)),
-        ("== null q", int(1)),
-        ("== null 0", int(0)),
-        ("== + big 1 - low 1", wide(BIG, 1)),
-        ("< 1 - low 1", wide(LOW, 1)),
-    ];
-    hold(&rt, rt.alloc(), &rows)
+    hold(&rt, rt.alloc(), COMPARISONS)
 }
+
+const CONNECTIVES: &[(&str, Gives)] = &[
+    ("&& 2 3", Int(1)),
+    ("&& 2 null", Int(0)),
+    ("&& 0 + big 1", Int(0)),
+    ("&& 1 + big 1", TooWide(BIG, 1)),
+    ("&& + big 1 0", TooWide(BIG, 1)),
+    ("|| 5 + big 1", Int(1)),
+    ("|| 0 0", Int(0)),
+    ("|| 0 7", Int(1)),
+    ("|| 0 + big 1", TooWide(BIG, 1)),
+    ("==> 0 + big 1", Int(1)),
+    ("==> 1 0", Int(0)),
+    ("==> 1 9", Int(1)),
+    ("==> 1 + big 1", TooWide(BIG, 1)),
+    ("<==> 2 3", Int(1)),
+    ("<==> 0 0", Int(1)),
+    ("<==> 1 0", Int(0)),
+    ("<==> 0 1", Int(0)),
+    ("<==> 0 + big 1", TooWide(BIG, 1)),
+    ("?: 1 7 + big 1", Int(7)),
+    ("?: 0 + big 1 8", Int(8)),
+    ("?: + big 1 7 8", TooWide(BIG, 1)),
+    ("?: null a b", At(3, 2)),
+];
 
 #[test]
 fn connectives(rt: HostRuntime) -> Result<(), Fail> {
-    let rows = [
-        ("&& 2 3", int(1)),
-        ("&& 2 null", int(0)),
-        ("&& 0 + big 1", int(0)),
-        ("&& 1 + big 1", wide(BIG, 1)),
-        ("&& + big 1 0", wide(BIG, 1)),
-        ("|| 5 + big 1", int(1)),
-        ("|| 0 0", int(0)),
-        ("|| 0 7", int(1)),
-        ("|| 0 + big 1", wide(BIG, 1)),
-        ("==> 0 + big 1", int(1)),
-        ("==> 1 0", int(0)),
-        ("==> 1 9", int(1)),
-        ("==> 1 + big 1", wide(BIG, 1)),
-        ("<==> 2 3", int(1)),
-        ("<==> 0 0", int(1)),
-        ("<==> 1 0", int(0)),
-        ("<==> 0 1", int(0)),
-        ("<==> 0 + big 1", wide(BIG, 1)),
-        ("?: 1 7 + big 1", int(7)),
-        ("?: 0 + big 1 8", int(8)),
-        ("?: + big 1 7 8", wide(BIG, 1)),
-        ("?: null a b", at(3, 2)),
-    ];
-    hold(&rt, rt.alloc(), &rows)
+    hold(&rt, rt.alloc(), CONNECTIVES)
 }
+
+const HEAPS_AND_STATUSES: &[(&str, Gives)] = &[
+    ("->n a", Int(5)),
+    ("->n null", Int(0)),
+    ("->p b", At(0, 0)),
+    ("->n ->p a", Int(10)),
+    ("closed a", Int(1)),
+    ("closed o", Int(0)),
+    ("closed f", Int(0)),
+    ("closed null", Int(0)),
+    ("owner b", At(3, 1)),
+    ("owner null", At(0, 0)),
+    ("count b", Int(2)),
+    ("in b a", Int(1)),
+    ("in a a", Int(0)),
+    ("in b b", Int(0)),
+    ("in + big 1 - low 1", TooWide(BIG, 1)),
+    ("wrapped a", Int(1)),
+    ("wrapped b", Int(0)),
+    ("wrapped o", Int(0)),
+    ("wrapped w", Int(1)),
+    ("wrapped0 a", Int(1)),
+    ("wrapped0 w", Int(0)),
+    ("mutable o", Int(1)),
+    ("mutable a", Int(0)),
+    ("mutable g", Int(0)),
+    ("mutable f", Int(0)),
+];
 
 #[test]
 fn heaps_and_statuses(rt: HostRuntime) -> Result<(), Fail> {
-    let rows = [
-        ("->n a", int(5)),
-        ("->n null", int(0)),
-        ("->p b", at(0, 0)),
-        ("->n ->p a", int(10)),
-        ("closed a", int(1)),
-        ("closed o", int(0)),
-        ("closed f", int(0)),
-        ("closed null", int(0)),
-        ("owner b", at(3, 1)),
-        ("owner null", at(0, 0)),
-        ("count b", int(2)),
-        ("in b a", int(1)),
-        ("in a a", int(0)),
-        ("in b b", int(0)),
-        ("in + big 1 - low 1", wide(BIG, 1)),
-        ("wrapped a", int(1)),
-        ("wrapped b", int(0)),
-        ("wrapped o", int(0)),
-        ("wrapped w", int(1)),
-        ("wrapped0 a", int(1)),
-        ("wrapped0 w", int(0)),
-        ("mutable o", int(1)),
-        ("mutable a", int(0)),
-        ("mutable g", int(0)),
-        ("mutable f", int(0)),
-    ];
-    hold(&rt, rt.alloc(), &rows)
+    hold(&rt, rt.alloc(), HEAPS_AND_STATUSES)
 }
 
 // At the function's entry x is 6, p is b, a is open, another thread's and owns b alone, and a->n is 4.
+const THE_EARLIER_HEAP: &[(&str, Gives)] = &[
+    ("old x", Int(6)),
+    ("old p", At(3, 2)),
+    ("old y", Int(100)),
+    ("old z", Int(0)),
+    ("old ->n a", Int(4)),
+    ("->n p", Int(5)),
+    ("old ->n p", Int(10)),
+    ("->n old p", Int(10)),
+    ("old old ->n a", Int(4)),
+    ("old closed a", Int(0)),
+    ("old mutable a", Int(0)),
+    ("old wrapped b", Int(1)),
+    ("old count b", Int(1)),
+    ("old in c a", Int(0)),
+    ("old result", Int(42)),
+    ("fresh a", Int(1)),
+    ("fresh b", Int(0)),
+    ("fresh d", Int(1)),
+    ("fresh null", Int(1)),
+    ("fresh w", Int(0)),
+    ("unchanged y", Int(1)),
+    ("unchanged x", Int(0)),
+    ("unchanged ->n b", Int(1)),
+    ("unchanged ->n a", Int(0)),
+    ("unchanged + big - x 6", TooWide(BIG, 1)),
+    ("unchanged + big x", TooWide(BIG, 6)),
+];
+
 #[test]
 fn the_earlier_heap(rt: HostRuntime) -> Result<(), Fail> {
-    let rows = [
-        ("old x", int(6)),
-        ("old p", at(3, 2)),
-        ("old y", int(100)),
-        ("old z", int(0)),
-        ("old ->n a", int(4)),
-        ("->n p", int(5)),
-        ("old ->n p", int(10)),
-        ("->n old p", int(10)),
-        ("old old ->n a", int(4)),
-        ("old closed a", int(0)),
-        ("old mutable a", int(0)),
-        ("old wrapped b", int(1)),
-        ("old count b", int(1)),
-        ("old in c a", int(0)),
-        ("old result", int(42)),
-        ("fresh a", int(1)),
-        ("fresh b", int(0)),
-        ("fresh d", int(1)),
-        ("fresh null", int(1)),
-        ("fresh w", int(0)),
-        ("unchanged y", int(1)),
-        ("unchanged x", int(0)),
-        ("unchanged ->n b", int(1)),
-        ("unchanged ->n a", int(0)),
-        ("unchanged + big - x 6", wide(BIG, 1)),
-        ("unchanged + big x", wide(BIG, 6)),
-    ];
-    hold(&rt, rt.alloc(), &rows)
+    hold(&rt, rt.alloc(), THE_EARLIER_HEAP)
 }
 
 // The claim k claims b and w. It was made with shape 0 at b and 7, shape 1 at me, a and 42, and shape 2 at c.
+const CLAIMS: &[(&str, Gives)] = &[
+    ("claims_object k b", Int(1)),
+    ("claims_object k c", Int(0)),
+    ("claims_object null b", Int(0)),
+    ("claims_object + big 1 - low 1", TooWide(BIG, 1)),
+    ("claims k 1 lists w", Int(1)),
+    ("claims k 1 has 0 b x .", Int(1)),
+    ("claims k 1 has 0 p x .", Int(0)),
+    ("claims k 1 has 0 b y .", Int(0)),
+    ("claims k 1 has 3 b x .", Int(0)),
+    ("claims k 1 has 0 b .", Int(0)),
+    ("claims k 1 has 0 b x x .", Int(0)),
+    ("claims k 1 has 1 me this result .", Int(1)),
+    ("claims k 1 has 1 me a result .", Int(1)),
+    ("claims k 1 has 1 me me result .", Int(0)),
+    ("claims k 2 has 0 b x . lists b", Int(1)),
+    ("claims k 2 lists c has 0 b x .", Int(0)),
+    ("claims w 1 has 0 b x .", Int(0)),
+    ("claims w 1 has 0 z z .", Int(0)),
+    ("claims null 0", Int(1)),
+    ("claims k 2 lists c lists + big 1", Int(0)),
+    ("claims k 2 lists b lists + big 1", TooWide(BIG, 1)),
+    ("claims + big 1 1 lists - low 1", TooWide(BIG, 1)),
+    ("old claims k 1 lists w", Int(0)),
+    ("some obj a 1 claims k 1 has 2 q .", Int(1)),
+    ("all obj a claims k 1 has 2 q .", Int(0)),
+];
+
 #[test]
 fn claims(rt: HostRuntime) -> Result<(), Fail> {
-    let rows = [
-        ("claims_object k b", int(1)),
-        ("claims_object k c", int(0)),
-        ("claims_object null b", int(0)),
-        ("claims_object + big 1 - low 1", wide(BIG, 1)),
-        ("claims k 1 lists w", int(1)),
-        ("claims k 1 has 0 b x .", int(1)),
-        ("claims k 1 has 0 p x .", int(0)),
-        ("claims k 1 has 0 b y .", int(0)),
-        ("claims k 1 has 3 b x .", int(0)),
-        ("claims k 1 has 0 b .", int(0)),
-        ("claims k 1 has 0 b x x .", int(0)),
-        ("claims k 1 has 1 me this result .", int(1)),
-        ("claims k 1 has 1 me a result .", int(1)),
-        ("claims k 1 has 1 me me result .", int(0)),
-        ("claims k 2 has 0 b x . lists b", int(1)),
-        ("claims k 2 lists c has 0 b x .", int(0)),
-        ("claims w 1 has 0 b x .", int(0)),
-        ("claims w 1 has 0 z z .", int(0)),
-        ("claims null 0", int(1)),
-        ("claims k 2 lists c lists + big 1", int(0)),
-        ("claims k 2 lists b lists + big 1", wide(BIG, 1)),
-        ("claims + big 1 1 lists - low 1", wide(BIG, 1)),
-        ("old claims k 1 lists w", int(0)),
-        ("some obj a 1 claims k 1 has 2 q .", int(1)),
-        ("all obj a claims k 1 has 2 q .", int(0)),
-    ];
-    hold(&rt, rt.alloc(), &rows)
+    hold(&rt, rt.alloc(), CLAIMS)
 }
 
 // Now a owns b, c and d, of the types 3, 4 and 4, with 10, -3 and the greatest number in n.
+const QUANTIFIERS: &[(&str, Gives)] = &[
+    ("all 3 a == ->n q 10", Int(1)),
+    ("all 4 a < ->n q 0", Int(0)),
+    ("all obj a <= ->n q big", Int(1)),
+    ("all obj a != q b", Int(0)),
+    ("all obj b false", Int(1)),
+    ("all claim a false", Int(1)),
+    ("all obj a > + ->n q 1 0", Int(0)),
+    ("all 4 a <= + ->n q 1 0", TooWide(BIG, 1)),
+    ("all obj a <= + ->n q 1 20", TooWide(BIG, 1)),
+    ("all claim + big 1 false", TooWide(BIG, 1)),
+    ("some 3 a 1 == ->n q 10", Int(1)),
+    ("some 4 a 1 > ->n q 0", Int(1)),
+    ("some 4 a 1 == q b", Int(0)),
+    ("some obj a 2 > ->n q 0 == q d", Int(1)),
+    ("some obj a 2 < ->n q 0 == q d", Int(0)),
+    ("some obj b 1 true", Int(0)),
+    ("some claim a 1 true", Int(0)),
+    ("some obj a 1 > + ->n q 1 0", Int(1)),
+    ("some 4 a 1 > + ->n q 1 0", TooWide(BIG, 1)),
+    ("some 4 a 2 < ->n q 0 > + big 1 0", TooWide(BIG, 1)),
+    ("some claim + big 1 1 true", TooWide(BIG, 1)),
+    ("all 3 a some 4 a 1 && == q1 b == q c", Int(1)),
+    ("all 3 a some 4 a 1 && == q b == q1 c", Int(0)),
+    ("old all obj a == q b", Int(1)),
+    ("all obj old p false", Int(1)),
+    ("&& in b this in c this", Int(1)),
+    ("&& in a this in + big 1 this", Int(0)),
+];
+
 #[test]
 fn quantifiers(rt: HostRuntime) -> Result<(), Fail> {
-    let rows = [
-        ("all 3 a == ->n q 10", int(1)),
-        ("all 4 a < ->n q 0", int(0)),
-        ("all obj a <= ->n q big", int(1)),
-        ("all obj a != q b", int(0)),
-        ("all obj b false", int(1)),
-        ("all claim a false", int(1)),
-        ("all obj a > + ->n q 1 0", int(0)),
-        ("all 4 a <= + ->n q 1 0", wide(BIG, 1)),
-        ("all obj a <= + ->n q 1 20", wide(BIG, 1)),
-        ("all claim + big 1 false", wide(BIG, 1)),
-        ("some 3 a 1 == ->n q 10", int(1)),
-        ("some 4 a 1 > ->n q 0", int(1)),
-        ("some 4 a 1 == q b", int(0)),
-        ("some obj a 2 > ->n q 0 == q d", int(1)),
-        ("some obj a 2 < ->n q 0 == q d", int(0)),
-        ("some obj b 1 true", int(0)),
-        ("some claim a 1 true", int(0)),
-        ("some obj a 1 > + ->n q 1 0", int(1)),
-        ("some 4 a 1 > + ->n q 1 0", wide(BIG, 1)),
-        ("some 4 a 2 < ->n q 0 > + big 1 0", wide(BIG, 1)),
-        ("some claim + big 1 1 true", wide(BIG, 1)),
-        ("all 3 a some 4 a 1 && == q1 b == q c", int(1)),
-        ("all 3 a some 4 a 1 && == q b == q1 c", int(0)),
-        ("old all obj a == q b", int(1)),
-        ("all obj old p false", int(1)),
-        ("&& in b this in c this", int(1)),
-        ("&& in a this in + big 1 this", int(0)),
-    ];
-    hold(&rt, rt.alloc(), &rows)
+    hold(&rt, rt.alloc(), QUANTIFIERS)
 }
 
 #[test]
