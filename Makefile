@@ -1,18 +1,35 @@
-# Both commands need the Rattle toolchain (`rt` on the path, or in /opt/rattle/bin) and nothing else.
+# All commands need the Rattle toolchain (`rt` on the path, or in /opt/rattle/bin) and nothing else.
 export PATH := $(PATH):/opt/rattle/bin
 PREFIX ?= /usr/local
+CRATE ?= vcc
+EXAMPLES := $(CURDIR)/examples
+CORES := $(shell nproc)
 
-.PHONY: run test install
+.PHONY: run build install test check fmt
 
-# Builds the program and judges the first example.
+# Judges the first example without proving anything first: about a minute.
 run:
-	cd crates/vcc && rt run -- check ../../examples/first.c ../../examples/first.cert
+	@echo "unproved run; \`make test\` proves it"
+	@cd crates/vcc && rt try -- check $(EXAMPLES)/first.c $(EXAMPLES)/first.cert
+
+# Proves and builds the program and every crate below it, lowest first, on all cores: half an hour on four.
+build:
+	cd crates/vcc && rt all check --jobs $(CORES)
+	cd crates/vcc && rt run -- check $(EXAMPLES)/first.c $(EXAMPLES)/first.cert
+
+# Puts the program that `make build` makes into PREFIX/bin.
+install: build
+	mkdir -p $(PREFIX)/bin
+	cp crates/vcc/out/vcc $(PREFIX)/bin/vcc
 
 # Every proof, test, program and must-fail edit from nothing, and the repository's own checks.
 test:
 	bash .ci/run
 
-# Puts the program that `make run` builds into PREFIX/bin.
-install: run
-	mkdir -p $(PREFIX)/bin
-	cp crates/vcc/out/vcc $(PREFIX)/bin/vcc
+# Proves one crate, over what was proved of it before: make check CRATE=terms
+check:
+	cd crates/$(CRATE) && rt check
+
+# Lays out one crate's files: make fmt CRATE=terms
+fmt:
+	cd crates/$(CRATE) && rt fmt

@@ -1,6 +1,6 @@
-pub mod Chosen
-pub mod GhostLinks
-pub mod Assigns
-pub mod Statements
-pub mod Vectors
-pub mod Listed
+pub mod Fronts
+pub mod Standing
+pub mod Shapes
+pub mod Found
+pub mod Links
+pub mod Choices

@@ -1,2 +1,4 @@
-pub mod Rows
-pub mod Views
+pub mod Pieces
+pub mod Standing
+pub mod Annotations
+pub mod Shapes

@@ -1,107 +1,65 @@
-//! What stands behind `_(` of an annotation that holds no statement of code.
+//! An annotation by itself.
 
-ghost use Rattle.std.specs.Prelude.{◌≡◌, ◌≤◌, ◌<◌, ◌+◌, IfOk};
-ghost use Rattle.expr_reader.specs.Reading.{Gives, lexemes, part};
-ghost use Rattle.annot_syntax.specs.Rows as rows;
-ghost use Rattle.annot_syntax.specs.Views as views;
+ghost use Rattle.std.specs.Prelude.{◌≡◌, ℕ, ◌<◌, ◌≤◌, ◌==◌, true, List, drop, length, IfOk, IfErr};
+ghost use Rattle.ebnf.specs.Derives.{next};
+ghost use Rattle.ebnf.specs.Verdict.{HasEnd};
+ghost use Rattle.c_syntax.specs.Classes as classes;
+ghost use Rattle.c_syntax.specs.declared.token.Sign.TheVariants as signs;
+ghost use Rattle.c_syntax.specs.Language.{language};
+ghost use Rattle.reader_expressions.specs.Reading.{lexemes};
+ghost use Rattle.annot_syntax.specs.Pieces as pieces;
+ghost use Rattle.annot_syntax.specs.Annotations.{view, IsAnnotation, IsAnnotationFaultOrMemory, IsOnlyAnnotation};
 
-use crate::ghost_rights::property;
-use crate::ghosts::ghost_body;
-use c_syntax::expressions::Expr;
-use c_syntax::ghosts::GhostStmt;
-use c_syntax::token::{Keyword, Sign, Token};
-use expr_reader::reading::{Parsed, ReadFault, Reading};
-use expr_reader::tokens::take_key;
-use sides::calls::code;
-use sides::ends::ended;
+use crate::expression::MOST_LEVELS;
+use crate::places::{annotation_of, least};
+use crate::tree::{Annotation, Place};
+use c_reader::faults::{first_place, unexpected};
+use c_source::fault::SourceFault;
+use c_syntax::token::{Sign, Token};
+use reader_expressions::reading::ReadFault;
+use reader_expressions::tokens::next_is;
 use std::alloc::Global;
 
-/// `assert` and what is asserted.
-#[tactic(auto, unfolding(ebnf::specs::Reading::read))]
-pub fn assert_behind<'a>(alloc: Global, room: u32, tokens: &'a [Token<'a>]) -> Reading<'a, Expr>
-    requires room { room < 1000 }
-    ensures gives { Gives views.asserted result (part room rows.assert_behind (lexemes tokens.now)) }
-    ensures low { IfOk result (λ x. x.height ≤ room) }
+/// Whether a `_(` stands at this place.
+#[tactic(auto, using(crate::proofs::Fronts::from_on))]
+pub fn is_annotation<'a>(tokens: &'a [Token<'a>], at: usize) -> bool
+    requires { at ≤ length tokens.now }
+    ensures { result ≡ (next language (drop at (lexemes tokens.now)) == classes.sign signs.Annotation) }
 {
-    let word = take_key(Keyword::Assert, tokens)?;
-    let found = property(alloc, room, word.rest)?;
-    let end = ended(Sign::Close, found)?;
-    let (value, _) = end.value;
-    Ok(Parsed {
-        value,
-        height: end.height,
-        rest: end.rest,
-    })
+    let (_, here) = tokens.split_at(at);
+    next_is(Sign::Annotation, here)
 }
 
-/// `ghost` and a ghost statement.
-#[tactic(auto, unfolding(ebnf::specs::Reading::read))]
-pub fn ghost_behind<'a>(alloc: Global, room: u32, tokens: &'a [Token<'a>]) -> Reading<'a, GhostStmt>
-    requires room { room < 1000 }
-    ensures gives { Gives views.ghostly result (part room rows.ghost_behind (lexemes tokens.now)) }
-    ensures low { IfOk result (λ x. x.height ≤ room) }
+/// The annotation of this place at the front of the tokens from here on, with so many levels around it, up to and with its `)`,
+/// and the place behind it. A `_(` stands here, and the last token is the end.
+pub fn read_annotation<'a>(
+    alloc: Global,
+    tokens: &'a [Token<'a>],
+    at: usize,
+    above: u32,
+    place: Place,
+) -> Result<(Annotation, usize), SourceFault>
+    requires end { HasEnd language (lexemes tokens.now) }
+    requires at { at < length tokens.now }
+    requires sign { (next language (drop at (lexemes tokens.now)) == classes.sign signs.Annotation) ≡ true }
+    requires above { above ≤ 200 }
+    ensures found { IfOk result (λ x. IsAnnotation place (pieces.room_within above) (drop at (lexemes tokens.now)) (view x.0) (drop x.1 (lexemes tokens.now))) }
+    ensures fault { IfErr result (IsAnnotationFaultOrMemory place (pieces.room_within above) (drop at (lexemes tokens.now))) }
+    // Where an annotation of this place stands there that is low enough, it is found.
+    ensures only { IsOnlyAnnotation place (pieces.room_within above) (lexemes tokens.now) (drop at (lexemes tokens.now)) result }
 {
-    let word = take_key(Keyword::Ghost, tokens)?;
-    let found = ghost_body(alloc, room, word.rest)?;
-    let end = ended(Sign::Close, found)?;
-    let (value, _) = end.value;
-    Ok(Parsed {
-        value,
-        height: end.height,
-        rest: end.rest,
-    })
-}
-
-/// `wrap` and an object.
-#[tactic(auto, unfolding(ebnf::specs::Reading::read))]
-pub fn wrap_behind<'a>(alloc: Global, room: u32, tokens: &'a [Token<'a>]) -> Reading<'a, Expr>
-    requires room { room < 1000 }
-    ensures gives { Gives views.wrapped result (part room rows.wrap_behind (lexemes tokens.now)) }
-    ensures low { IfOk result (λ x. x.height ≤ room) }
-{
-    let word = take_key(Keyword::Wrap, tokens)?;
-    let found = code(alloc, room, word.rest)?;
-    let end = ended(Sign::Close, found)?;
-    let (value, _) = end.value;
-    Ok(Parsed {
-        value,
-        height: end.height,
-        rest: end.rest,
-    })
-}
-
-/// `unwrap` and an object.
-#[tactic(auto, unfolding(ebnf::specs::Reading::read))]
-pub fn unwrap_behind<'a>(alloc: Global, room: u32, tokens: &'a [Token<'a>]) -> Reading<'a, Expr>
-    requires room { room < 1000 }
-    ensures gives { Gives views.unwrapped result (part room rows.unwrap_behind (lexemes tokens.now)) }
-    ensures low { IfOk result (λ x. x.height ≤ room) }
-{
-    let word = take_key(Keyword::Unwrap, tokens)?;
-    let found = code(alloc, room, word.rest)?;
-    let end = ended(Sign::Close, found)?;
-    let (value, _) = end.value;
-    Ok(Parsed {
-        value,
-        height: end.height,
-        rest: end.rest,
-    })
-}
-
-/// `invariant` and the property.
-#[tactic(auto, unfolding(ebnf::specs::Reading::read))]
-pub fn invariant_behind<'a>(alloc: Global, room: u32, tokens: &'a [Token<'a>]) -> Reading<'a, Expr>
-    requires room { room < 1000 }
-    ensures gives { Gives views.kept result (part room rows.invariant_behind (lexemes tokens.now)) }
-    ensures low { IfOk result (λ x. x.height ≤ room) }
-{
-    let word = take_key(Keyword::Invariant, tokens)?;
-    let found = property(alloc, room, word.rest)?;
-    let end = ended(Sign::Close, found)?;
-    let (value, _) = end.value;
-    Ok(Parsed {
-        value,
-        height: end.height,
-        rest: end.rest,
-    })
+    let (_, here) = tokens.split_at(at);
+    let room = MOST_LEVELS - above;
+    if room < least(place) {
+        return Err(SourceFault::TooDeep(first_place(here)));
+    }
+    match annotation_of(alloc, place, room, here) {
+        Ok(found) => {
+            let following = tokens.len().saturating_sub(found.rest.len());
+            Ok((found.value, following))
+        }
+        Err(ReadFault::Unexpected(rest)) => Err(unexpected(here, rest)),
+        Err(ReadFault::TooDeep(rest)) => Err(SourceFault::TooDeep(first_place(rest))),
+        Err(ReadFault::OutOfMemory) => Err(SourceFault::OutOfMemory),
+    }
 }

@@ -1,9 +1,13 @@
-//! Ghost statements, and what stands in the annotations of code.
+//! The reader of pieces of a source: an expression by itself, and an annotation by itself.
 #![tactic(auto)]
 
 pub mod annotations;
-pub mod ghost_places;
-pub mod ghost_rights;
-pub mod ghosts;
-pub mod sets;
-pub mod simple;
+pub mod expression;
+pub mod forms;
+pub mod places;
+pub mod tree;
+pub mod words;
+
+pub use annotations::{is_annotation, read_annotation};
+pub use expression::read_expression;
+pub use tree::{Annotation, Place};

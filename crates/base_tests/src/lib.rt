@@ -8,4 +8,6 @@ mod integer_types;
 #[cfg(test)]
 mod lexing;
 #[cfg(test)]
+mod rows;
+#[cfg(test)]
 mod stores;

@@ -11,9 +11,9 @@ use Rattle.c_syntax.specs.Lexing.{Lexeme}
 use Rattle.c_syntax.specs.Language.{language}
 use Rattle.c_syntax.specs.Grammar as g
 use Rattle.c_syntax.specs.Grammar.{P, ◌▷◌, word, name, concat}
-use Rattle.expr_reader.specs.Reading.{part}
-use Rattle.sides.proofs.Parts.{row_read}
-use Rattle.item_reader.specs.Rows.{attributes}
+use Rattle.reader_expressions.specs.Reading.{part}
+use Rattle.reader_assignments.proofs.Parts.{row_read}
+use Rattle.reader_items.specs.Rows.{attributes}
 use Rattle.c_reader.specs.Rows.{named_struct, listed_struct, attributed, attributes_and_struct}
 
 -- a value with what is read behind it
@@ -58,9 +58,9 @@ module _ (room : ℕ) where
   -- the struct, as what it makes of one list and as what it makes of several
   struct_mapped : Mapped room gather named_struct listed_struct
   struct_mapped =
-      row_mapped room gather (word (key k.Struct)) (name ▷ g.struct_behind ▷ nothing (λ f n p as'. i.Struct (f n p as'))) (name ▷ g.struct_behind ▷ nothing (λ f n p more one. i.Struct (f n p (concat (one ∷ more)))))
-      (row_mapped room (λ f p. gather (f p)) name (g.struct_behind ▷ nothing (λ f n p as'. i.Struct (f n p as'))) (g.struct_behind ▷ nothing (λ f n p more one. i.Struct (f n p (concat (one ∷ more)))))
-      (row_mapped room (λ f n p. gather (f n p)) g.struct_behind (nothing (λ f n p as'. i.Struct (f n p as'))) (nothing (λ f n p more one. i.Struct (f n p (concat (one ∷ more)))))
+      row_mapped room gather (word (key k.Struct)) (name ▷ g.struct_tail ▷ nothing (λ f n p as'. i.Struct (f n p as'))) (name ▷ g.struct_tail ▷ nothing (λ f n p more one. i.Struct (f n p (concat (one ∷ more)))))
+      (row_mapped room (λ f p. gather (f p)) name (g.struct_tail ▷ nothing (λ f n p as'. i.Struct (f n p as'))) (g.struct_tail ▷ nothing (λ f n p more one. i.Struct (f n p (concat (one ∷ more)))))
+      (row_mapped room (λ f n p. gather (f n p)) g.struct_tail (nothing (λ f n p as'. i.Struct (f n p as'))) (nothing (λ f n p more one. i.Struct (f n p (concat (one ∷ more)))))
       (nothing_mapped room (λ f b n p. gather (f b n p)) (λ f n p as'. i.Struct (f n p as')))))
 
   -- the further lists of attributes

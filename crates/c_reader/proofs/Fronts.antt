@@ -7,7 +7,7 @@ use Rattle.c_syntax.specs.Classes.{class, sign}
 use Rattle.c_syntax.specs.Lexing.{Lexeme, lexeme}
 use Rattle.c_syntax.specs.Faults.{ends_with_annotation, front_of}
 use Rattle.c_source.proofs.Unique.{last_same}
-use Rattle.expr_reader.specs.Reading.{lexemes}
+use Rattle.reader_expressions.specs.Reading.{lexemes}
 
 ends_behind : (before : List Lexeme) (last : Lexeme) → ends_with_annotation (before ++ last ∷ []) ≡ (class last == sign s.Annotation)
 ends_behind [] last = refl

@@ -14,11 +14,11 @@ use Rattle.c_syntax.specs.Lexing.{Lexeme}
 use Rattle.c_syntax.specs.Language.{language}
 use Rattle.c_syntax.specs.Grammar as g
 use Rattle.c_syntax.specs.Grammar.{R}
-use Rattle.expr_reader.specs.Reading.{part, rule_at}
-use Rattle.expr_reader.proofs.Primaries.{fits_two}
-use Rattle.sides.proofs.Listed.{fits_zero}
-use Rattle.sides.proofs.Chosen.{none_of}
-use Rattle.item_reader.proofs.Choices.{or_false, left_read, right_read, rule_left, rule_left_deep, rule_right, rule_right_deep, rule_neither}
+use Rattle.reader_expressions.specs.Reading.{part, rule_at}
+use Rattle.reader_expressions.proofs.Primaries.{fits_two}
+use Rattle.reader_assignments.proofs.Listed.{fits_zero}
+use Rattle.reader_assignments.proofs.Chosen.{none_of}
+use Rattle.reader_items.proofs.Choices.{or_false, left_read, right_read, rule_left, rule_left_deep, rule_right, rule_right_deep, rule_neither}
 use Rattle.c_reader.specs.Rows.{plain_struct, behind_struct_name, attributed_rule, struct_or_function, typed_function, one_item}
 
 module _ (room : ℕ) (ts : List Lexeme) where

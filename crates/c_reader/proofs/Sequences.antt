@@ -5,10 +5,10 @@ use Rattle.ebnf.specs.Reading.{Out, on, read}
 use Rattle.c_syntax.specs.Lexing.{Lexeme}
 use Rattle.c_syntax.specs.Language.{language}
 use Rattle.c_syntax.specs.Grammar.{P, ◌▷◌}
-use Rattle.expr_reader.specs.Reading.{part}
-use Rattle.expr_reader.specs.Lists.{repeated}
-use Rattle.sides.proofs.Repeats.{going}
-use Rattle.item_reader.specs.Rows.{alone}
+use Rattle.reader_expressions.specs.Reading.{part}
+use Rattle.reader_expressions.specs.Lists.{repeated}
+use Rattle.reader_assignments.proofs.Repeats.{going}
+use Rattle.reader_items.specs.Rows.{alone}
 
 module _ {B : Type 0} (room : ℕ) (p : P B) where
   -- one, and as many behind it as there are

@@ -9,9 +9,9 @@ use Rattle.c_syntax.specs.Items.{Item}
 use Rattle.c_syntax.specs.Language.{language}
 use Rattle.c_syntax.specs.Faults.{SyntaxFault, UnexpectedToken, UnknownForm, TooHigh, fault_of, front_of, first_token}
 use Rattle.c_syntax.specs.Views.{item}
-use Rattle.expr_reader.specs.declared.reading.ReadFault.{ReadFault}
-use Rattle.expr_reader.specs.declared.reading.ReadFault.TheVariants as r
-use Rattle.expr_reader.specs.Reading.{lexemes}
+use Rattle.reader_expressions.specs.declared.reading.ReadFault.{ReadFault}
+use Rattle.reader_expressions.specs.declared.reading.ReadFault.TheVariants as r
+use Rattle.reader_expressions.specs.Reading.{lexemes}
 use Rattle.c_source.specs.declared.fault.SourceFault.{SourceFault}
 use Rattle.c_source.specs.declared.fault.SourceFault.TheVariants as f
 

@@ -11,23 +11,23 @@ use Rattle.c_syntax.specs.Items as i
 use Rattle.c_syntax.specs.Items.{Param, FunctionTree, Item}
 use Rattle.c_syntax.specs.Grammar as g
 use Rattle.c_syntax.specs.Grammar.{P, R, ◌▷◌, word, name}
-use Rattle.item_reader.specs.Rows.{clauses, attributes}
+use Rattle.reader_items.specs.Rows.{clauses, attributes}
 
 -- ---- functions
 
 -- what stands behind the parameters of a function
-abbrev pub contract_behind : P (List Param → List Param → Span → Id → Span → Option Ty → FunctionTree)
-contract_behind = word (sign s.Close) ▷ clauses ▷ below g.BlockOf (λ x. x) ▷ nothing (λ b cs c gs ps o n p ty. record { place = p; value = ty; name = n; parameters = ps; ghost_parameters = gs; contract = cs; body = b })
+abbrev pub contract_tail : P (List Param → List Param → Span → Id → Span → Option Ty → FunctionTree)
+contract_tail = word (sign s.Close) ▷ clauses ▷ below g.BlockOf (λ x. x) ▷ nothing (λ b cs c gs ps o n p ty. record { place = p; value = ty; name = n; parameters = ps; ghost_parameters = gs; contract = cs; body = b })
 
 -- a function that gives a number or nothing
 abbrev pub typed_function : R Item
-typed_function = form (g.result_type ▷ name ▷ g.function_behind ▷ nothing (λ f n ty. i.Function (f n ty.0 ty.1)))
+typed_function = form (g.result_type ▷ name ▷ g.function_tail ▷ nothing (λ f n ty. i.Function (f n ty.0 ty.1)))
 
 -- ---- structs
 
 -- the members of a struct that has no attributes
 abbrev pub plain_struct : P (Id → Span → Item)
-plain_struct = g.struct_behind ▷ nothing (λ f n p. i.Struct (f n p []))
+plain_struct = g.struct_tail ▷ nothing (λ f n p. i.Struct (f n p []))
 
 -- what stands behind `struct` and a name
 abbrev pub behind_struct_name : P (Id → Span → Item)
@@ -39,11 +39,11 @@ struct_or_function = form (word (key k.Struct) ▷ name ▷ behind_struct_name �
 
 -- a struct, as what it makes of its attributes
 abbrev pub named_struct : P (List Attribute → Item)
-named_struct = word (key k.Struct) ▷ name ▷ g.struct_behind ▷ nothing (λ f n p as'. i.Struct (f n p as'))
+named_struct = word (key k.Struct) ▷ name ▷ g.struct_tail ▷ nothing (λ f n p as'. i.Struct (f n p as'))
 
 -- the same, as what it makes of a first list of attributes and of the further ones
 abbrev pub listed_struct : P (List (List Attribute) → List Attribute → Item)
-listed_struct = word (key k.Struct) ▷ name ▷ g.struct_behind ▷ nothing (λ f n p more one. i.Struct (f n p (g.concat (one ∷ more))))
+listed_struct = word (key k.Struct) ▷ name ▷ g.struct_tail ▷ nothing (λ f n p more one. i.Struct (f n p (g.concat (one ∷ more))))
 
 -- a struct with attributes, as the grammar has it
 abbrev pub attributed : P Item

@@ -6,12 +6,12 @@ ghost use Rattle.c_syntax.specs.Classes as classes;
 ghost use Rattle.c_syntax.specs.Language.{language};
 ghost use Rattle.c_syntax.specs.Lexing.{Lexeme, lexeme, word_of};
 ghost use Rattle.c_syntax.specs.Faults as spec;
-ghost use Rattle.expr_reader.specs.Reading.{lexemes};
+ghost use Rattle.reader_expressions.specs.Reading.{lexemes};
 ghost use Rattle.c_reader.specs.Reading.{IsUnexpected};
 
 use c_source::fault::SourceFault;
 use c_syntax::token::{Keyword, Sign, Span, Token, TokenKind};
-use expr_reader::tokens::is_sign;
+use reader_expressions::tokens::is_sign;
 
 /// Whether the token is the end of the text.
 fn is_end(token: &Token<'_>) -> bool

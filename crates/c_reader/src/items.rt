@@ -8,27 +8,27 @@ ghost use Rattle.ebnf.specs.Reading.{reads};
 ghost use Rattle.c_syntax.specs.Grammar as g;
 ghost use Rattle.c_syntax.specs.Language.{language};
 ghost use Rattle.c_syntax.specs.Views.{id, ty, item as item_of};
-ghost use Rattle.expr_reader.specs.Reading.{Gives, lexemes, part, rule_at};
+ghost use Rattle.reader_expressions.specs.Reading.{Gives, lexemes, part, rule_at};
 ghost use Rattle.c_reader.specs.Rows as rows;
 ghost use Rattle.c_reader.specs.Views as views;
 
-use crate::functions::{FunctionBehind, function_at, function_behind};
+use crate::functions::{FunctionTail, function_at, function_tail};
 use c_syntax::expressions::{Identifier, ValueType};
 use c_syntax::items::{Item, Member, Struct};
 use c_syntax::token::{Keyword, Sign, Span, Token};
 use c_syntax::tree::Attribute;
-use expr_reader::reading::{Parsed, ReadFault, Reading, fits};
-use expr_reader::tokens::{next_is, next_is_key, take, take_key, take_name};
-use expr_reader::types::int_type;
-use item_reader::attributes::attributes;
-use item_reader::structs::struct_behind;
+use reader_expressions::reading::{Parsed, ReadFault, Reading, fits};
+use reader_expressions::tokens::{next_is, next_is_key, take, take_key, take_name};
+use reader_expressions::types::int_type;
+use reader_items::attributes::attributes;
+use reader_items::structs::struct_tail;
 use std::alloc::Global;
 
 /// A function that gives a pointer, behind the name of the struct.
 #[derive(Drop)]
 pub struct PointerFunction {
     pub name: Identifier,
-    pub behind: FunctionBehind,
+    pub following: FunctionTail,
 }
 
 /// What stands behind `struct` and a name.
@@ -70,7 +70,7 @@ pub fn result_type<'a>(room: u32, tokens: &'a [Token<'a>]) -> Reading<'a, (Span,
 }
 
 /// `*`, and a function that gives a pointer.
-#[tactic(auto, using(sides::proofs::Parts::rows))]
+#[tactic(auto, using(reader_assignments::proofs::Parts::rows))]
 pub fn pointer_function<'a>(
     alloc: Global,
     room: u32,
@@ -83,26 +83,26 @@ pub fn pointer_function<'a>(
 {
     let star = take(Sign::Star, tokens)?;
     let name = take_name(alloc, 1, star.rest)?;
-    let behind = function_behind(alloc, room, name.rest)?;
-    let height = name.height.max(behind.height);
+    let following = function_tail(alloc, room, name.rest)?;
+    let height = name.height.max(following.height);
     Ok(Parsed {
         value: PointerFunction {
             name: name.value,
-            behind: behind.value,
+            following: following.value,
         },
         height,
-        rest: behind.rest,
+        rest: following.rest,
     })
 }
 
 /// The members of a struct, behind its name.
-#[tactic(auto, using(sides::proofs::Parts::rows))]
+#[tactic(auto, using(reader_assignments::proofs::Parts::rows))]
 fn plain_struct<'a>(alloc: Global, room: u32, tokens: &'a [Token<'a>]) -> Reading<'a, StructWord>
     requires room { room < 1000 }
     ensures gives { Gives views.struct_word result (part room rows.plain_struct (lexemes tokens.now)) }
     ensures low { IfOk result (λ x. x.height ≤ room) }
 {
-    let found = struct_behind(alloc, room, tokens)?;
+    let found = struct_tail(alloc, room, tokens)?;
     Ok(Parsed {
         value: StructWord::Struct(found.value),
         height: found.height,
@@ -111,7 +111,7 @@ fn plain_struct<'a>(alloc: Global, room: u32, tokens: &'a [Token<'a>]) -> Readin
 }
 
 /// A function that gives a pointer, behind the name of the struct.
-fn pointer_behind<'a>(alloc: Global, room: u32, tokens: &'a [Token<'a>]) -> Reading<'a, StructWord>
+fn pointer_tail<'a>(alloc: Global, room: u32, tokens: &'a [Token<'a>]) -> Reading<'a, StructWord>
     requires room { room < 1000 }
     requires fits { 1 ≤ room }
     ensures gives { Gives views.struct_word result (part room g.pointer_function (lexemes tokens.now)) }
@@ -143,14 +143,14 @@ fn behind_struct_name<'a>(
     if !next_is(Sign::Star, tokens) {
         return Err(ReadFault::Unexpected(tokens));
     }
-    pointer_behind(alloc, room, tokens)
+    pointer_tail(alloc, room, tokens)
 }
 
 /// A struct with no attributes, or a function that gives a pointer.
-fn item_at(alloc: Global, span: Span, name: Identifier, behind: StructWord) -> Item
-    ensures { item_of result ≡ views.struct_word behind (id name) span }
+fn item_at(alloc: Global, span: Span, name: Identifier, following: StructWord) -> Item
+    ensures { item_of result ≡ views.struct_word following (id name) span }
 {
-    match behind {
+    match following {
         StructWord::Struct(members) => Item::Struct(Struct {
             attributes: Vec::new(alloc),
             span,
@@ -161,13 +161,13 @@ fn item_at(alloc: Global, span: Span, name: Identifier, behind: StructWord) -> I
             span,
             Some(ValueType::Pointer(name)),
             found.name,
-            found.behind,
+            found.following,
         )),
     }
 }
 
 /// An item that begins with `struct`, one level of height down.
-#[tactic(auto, unfolding(ebnf::specs::Reading::read_rule), using(sides::proofs::Parts::rows))]
+#[tactic(auto, unfolding(ebnf::specs::Reading::read_rule), using(reader_assignments::proofs::Parts::rows))]
 fn struct_or_function<'a>(alloc: Global, room: u32, tokens: &'a [Token<'a>]) -> Reading<'a, Item>
     requires room { room < 1000 }
     requires fits { 1 ≤ room }
@@ -176,17 +176,17 @@ fn struct_or_function<'a>(alloc: Global, room: u32, tokens: &'a [Token<'a>]) -> 
 {
     let word = take_key(Keyword::Struct, tokens)?;
     let name = take_name(alloc, 1, word.rest)?;
-    let behind = behind_struct_name(alloc, room, name.rest)?;
-    let height = name.height.max(behind.height) + 1;
+    let following = behind_struct_name(alloc, room, name.rest)?;
+    let height = name.height.max(following.height) + 1;
     Ok(Parsed {
-        value: item_at(alloc, word.value, name.value, behind.value),
+        value: item_at(alloc, word.value, name.value, following.value),
         height,
-        rest: behind.rest,
+        rest: following.rest,
     })
 }
 
 /// A function that gives a number or nothing, one level of height down.
-#[tactic(auto, unfolding(ebnf::specs::Reading::read_rule), using(sides::proofs::Parts::rows))]
+#[tactic(auto, unfolding(ebnf::specs::Reading::read_rule), using(reader_assignments::proofs::Parts::rows))]
 fn typed_function<'a>(alloc: Global, room: u32, tokens: &'a [Token<'a>]) -> Reading<'a, Item>
     requires room { room < 1000 }
     requires fits { 1 ≤ room }
@@ -195,18 +195,18 @@ fn typed_function<'a>(alloc: Global, room: u32, tokens: &'a [Token<'a>]) -> Read
 {
     let ty = result_type(room, tokens)?;
     let name = take_name(alloc, 1, ty.rest)?;
-    let behind = function_behind(alloc, room, name.rest)?;
-    let height = name.height.max(behind.height) + 1;
+    let following = function_tail(alloc, room, name.rest)?;
+    let height = name.height.max(following.height) + 1;
     let (span, value) = ty.value;
     Ok(Parsed {
-        value: Item::Function(function_at(span, value, name.value, behind.value)),
+        value: Item::Function(function_at(span, value, name.value, following.value)),
         height,
-        rest: behind.rest,
+        rest: following.rest,
     })
 }
 
 /// A struct behind its attributes.
-#[tactic(auto, using(sides::proofs::Parts::rows))]
+#[tactic(auto, using(reader_assignments::proofs::Parts::rows))]
 fn named_struct<'a>(alloc: Global, room: u32, tokens: &'a [Token<'a>]) -> Reading<'a, NamedStruct>
     requires room { room < 1000 }
     requires fits { 1 ≤ room }
@@ -215,7 +215,7 @@ fn named_struct<'a>(alloc: Global, room: u32, tokens: &'a [Token<'a>]) -> Readin
 {
     let word = take_key(Keyword::Struct, tokens)?;
     let name = take_name(alloc, 1, word.rest)?;
-    let members = struct_behind(alloc, room, name.rest)?;
+    let members = struct_tail(alloc, room, name.rest)?;
     let height = name.height.max(members.height);
     Ok(Parsed {
         value: NamedStruct {

@@ -5,15 +5,15 @@ ghost use Rattle.ebnf.specs.Reading.{reads};
 ghost use Rattle.c_syntax.specs.Grammar as g;
 ghost use Rattle.c_syntax.specs.Language.{language};
 ghost use Rattle.c_syntax.specs.Views.{item as item_of};
-ghost use Rattle.expr_reader.specs.Reading.{Gives, lexemes, part, rule_at, entered, extended};
-ghost use Rattle.item_reader.specs.Rows.{alone};
+ghost use Rattle.reader_expressions.specs.Reading.{Gives, lexemes, part, rule_at, entered, extended};
+ghost use Rattle.reader_items.specs.Rows.{alone};
 ghost use Rattle.c_reader.specs.Rows as rows;
 
 use crate::items::{begins_item, item};
 use c_syntax::items::Item;
 use c_syntax::token::Token;
-use expr_reader::memory::{add, single};
-use expr_reader::reading::{Parsed, ReadFault, Reading, fits};
+use reader_expressions::memory::{add, single};
+use reader_expressions::reading::{Parsed, ReadFault, Reading, fits};
 use std::alloc::Global;
 
 /// The first item.

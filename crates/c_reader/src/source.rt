@@ -9,7 +9,7 @@ ghost use Rattle.c_syntax.specs.Lexing.{Lexeme, Lexes, IsFirstOrMemory};
 ghost use Rattle.c_syntax.specs.Views as views;
 ghost use Rattle.c_source.specs.declared.fault.SourceFault.{SourceFault};
 ghost use Rattle.c_source.specs.Sources.{FailsOrMemory, IsFault, IsFaultOrMemory, IsText, IsTreeOrMemory, IsWithinLimits};
-ghost use Rattle.expr_reader.specs.Reading.{lexemes};
+ghost use Rattle.reader_expressions.specs.Reading.{lexemes};
 ghost use Rattle.tree_heights.specs.Parts.{parts};
 ghost use Rattle.c_reader.specs.Reading.{GivesItems, IsRead};
 
@@ -19,7 +19,7 @@ use c_source::fault::SourceFault;
 use c_syntax::fault::LexFault;
 use c_syntax::items::{Item, Tree};
 use c_syntax::token::Token;
-use expr_reader::reading::ReadFault;
+use reader_expressions::reading::ReadFault;
 use std::alloc::Global;
 use vcc_lexer::tokens;
 

@@ -497,8 +497,8 @@ allocation = form (word (key k.Malloc) ▷ size_of ▷ nothing (λ f m. (m, f m)
 abbrev pub ghost_arguments : P (List Exp)
 ghost_arguments = many (below GhostArgument (λ x. x)) (λ xs. xs)
 
-abbrev pub call_behind : P (Id → CallTree)
-call_behind = word (sign s.Open) ▷ list_or_none code ▷ ghost_arguments ▷ word (sign s.Close) ▷ nothing (λ c gs xs o f. record { function = f; arguments = xs; ghost_arguments = gs })
+abbrev pub call_tail : P (Id → CallTree)
+call_tail = word (sign s.Open) ▷ list_or_none code ▷ ghost_arguments ▷ word (sign s.Close) ▷ nothing (λ c gs xs o f. record { function = f; arguments = xs; ghost_arguments = gs })
 
 abbrev pub ghost_argument : R Exp
 ghost_argument = form (word (sign s.Annotation) ▷ word (key k.Ghost) ▷ code ▷ word (sign s.Close) ▷ nothing (λ c x gh a. x))
@@ -574,17 +574,17 @@ done (Open x) = e.Value x
 abbrev pub rhs : P Rhs
 rhs =
     by_next (below Allocation (λ x. e.Malloc None x.0 x.1)) (by_next (below InterlockedCall (λ x. e.Locked x.0 x.1))
-    (by_value cast_done is_bare (by_next (call_behind ▷ nothing (λ f x. e.Called (f (callee x)))) (nothing done)) (nothing done)))
+    (by_value cast_done is_bare (by_next (call_tail ▷ nothing (λ f x. e.Called (f (callee x)))) (nothing done)) (nothing done)))
 
-abbrev pub assignment_behind : P (Exp → Assignment)
-assignment_behind =
+abbrev pub assignment_tail : P (Exp → Assignment)
+assignment_tail =
     by_next (word (sign s.Assign) ▷ rhs ▷ nothing (λ x o l. record { left = l; place = o; effect = e.Set x })) (by_next (word (sign s.AddAssign) ▷ code ▷ nothing (λ x o l. record { left = l; place = o; effect = e.Add x }))
     (by_next (word (sign s.SubtractAssign) ▷ code ▷ nothing (λ x o l. record { left = l; place = o; effect = e.Subtract x }))
     (by_next (token (sign s.Increment) 0 (λ x l. record { left = l; place = x.place; effect = e.Increment })) (token (sign s.Decrement) 0 (λ x l. record { left = l; place = x.place; effect = e.Decrement })))))
 
 -- an assignment of a `for`
 abbrev pub assigned : R Assignment
-assigned = pick (form (below NamePlace (λ x. x) ▷ assignment_behind ▷ nothing (λ f l. f l))) (form (below OtherPlace (λ x. x) ▷ assignment_behind ▷ nothing (λ f l. f l)))
+assigned = pick (form (below NamePlace (λ x. x) ▷ assignment_tail ▷ nothing (λ f l. f l))) (form (below OtherPlace (λ x. x) ▷ assignment_tail ▷ nothing (λ f l. f l)))
 
 -- the place of an expression's first token
 abbrev pub first_place : Exp → Span
@@ -674,10 +674,10 @@ name_of (e.Name x) = x
 name_of _ = record { place = record { line = 0; column = 0 }; name = [] }
 
 abbrev pub assign_statement : P (Exp → Stm)
-assign_statement = assignment_behind ▷ word (sign s.Semicolon) ▷ nothing (λ c f l. st.Assign (first_place l) (f l))
+assign_statement = assignment_tail ▷ word (sign s.Semicolon) ▷ nothing (λ c f l. st.Assign (first_place l) (f l))
 
 abbrev pub call_statement : P (Exp → Stm)
-call_statement = call_behind ▷ word (sign s.Semicolon) ▷ nothing (λ c f l. st.Call (first_place l) (f (name_of l)))
+call_statement = call_tail ▷ word (sign s.Semicolon) ▷ nothing (λ c f l. st.Call (first_place l) (f (name_of l)))
 
 abbrev pub if_of : Span → Exp → Stm → Option Stm → Stm
 if_of p x a None = st.If p x a
@@ -730,11 +730,11 @@ statement = pick (simple (λ x. x)) (form (word (sign s.Annotation) ▷ annotate
 abbrev pub as_statement : Stm → Inv ⊎ Stm
 as_statement x = inr x
 
-abbrev pub invariant_behind : P (Span → Inv)
-invariant_behind = word (key k.Invariant) ▷ whole_spec ▷ word (sign s.Close) ▷ nothing (λ c x q p. record { place = p; property = x })
+abbrev pub invariant_tail : P (Span → Inv)
+invariant_tail = word (key k.Invariant) ▷ whole_spec ▷ word (sign s.Close) ▷ nothing (λ c x q p. record { place = p; property = x })
 
 abbrev pub loop_annotation : P (Span → Inv ⊎ Stm)
-loop_annotation = by_next (invariant_behind ▷ nothing (λ f p. inl (f p))) (annotated ▷ nothing (λ f p. inr (f p)))
+loop_annotation = by_next (invariant_tail ▷ nothing (λ f p. inl (f p))) (annotated ▷ nothing (λ f p. inr (f p)))
 
 abbrev pub loop_item : R (Inv ⊎ Stm)
 loop_item = pick (simple as_statement) (form (word (sign s.Annotation) ▷ loop_annotation ▷ nothing (λ f p. f p)))
@@ -750,12 +750,12 @@ written = by_next (below WritesOf (λ x. x)) (whole_spec ▷ nothing (λ x. i.Th
 abbrev pub condition : (class : ℕ) → Condition → P (Span → Clause)
 condition class x = word class ▷ whole_spec ▷ nothing (λ y q p. i.Holds p x y)
 
-abbrev pub clause_behind : P (Span → Clause)
-clause_behind =
+abbrev pub clause_tail : P (Span → Clause)
+clause_tail =
     by_next (condition (key k.Requires) conditions.Requires) (by_next (condition (key k.Ensures) conditions.Ensures) (by_next (condition (key k.Maintains) conditions.Maintains) (word (key k.Writes) ▷ list written ▷ nothing (λ xs q p. i.Writes p xs))))
 
 abbrev pub clause_of : R Clause
-clause_of = form (word (sign s.Annotation) ▷ clause_behind ▷ word (sign s.Close) ▷ nothing (λ c f p. f p))
+clause_of = form (word (sign s.Annotation) ▷ clause_tail ▷ word (sign s.Close) ▷ nothing (λ c f p. f p))
 
 abbrev pub param : P Param
 param = ctype ▷ name ▷ nothing (λ n ty. record { ty = ty.1; name = n })
@@ -767,8 +767,8 @@ abbrev pub ghost_param : P Param
 ghost_param = word (sign s.Annotation) ▷ word (key k.Ghost) ▷ gtype ▷ name ▷ word (sign s.Close) ▷ nothing (λ c n ty gh a. record { ty = ty.1; name = n })
 
 -- a function behind its name
-abbrev pub function_behind : P (Id → Span → Option Ty → FunctionTree)
-function_behind =
+abbrev pub function_tail : P (Id → Span → Option Ty → FunctionTree)
+function_tail =
     word (sign s.Open) ▷ params ▷ many ghost_param (λ xs. xs) ▷ word (sign s.Close) ▷ many (below ClauseOf (λ x. x)) (λ xs. xs) ▷ below BlockOf (λ x. x)
     ▷ nothing (λ b cs c gs ps o n p ty. record { place = p; value = ty; name = n; parameters = ps; ghost_parameters = gs; contract = cs; body = b })
 
@@ -789,7 +789,7 @@ abbrev pub ghost_field : P (Span → Member)
 ghost_field = word (key k.Ghost) ▷ flag (key k.Volatile) ▷ ghost_type ▷ leaf_name ▷ semicolon_or_none ▷ word (sign s.Close) ▷ nothing (λ c z n ty v gh p. i.Field (record { is_ghost = true; is_volatile = v; ty = ty.1; name = n }))
 
 abbrev pub member_annotation : P (Span → Member)
-member_annotation = by_next (invariant_behind ▷ nothing (λ f p. i.Invariant (f p))) ghost_field
+member_annotation = by_next (invariant_tail ▷ nothing (λ f p. i.Invariant (f p))) ghost_field
 
 abbrev pub member_of : R Member
 member_of = pick (form member_field) (form (word (sign s.Annotation) ▷ member_annotation ▷ nothing (λ f p. f p)))
@@ -805,19 +805,19 @@ concat [] = []
 concat (xs ∷ xss) = xs ++ concat xss
 
 -- a struct behind its name
-abbrev pub struct_behind : P (Id → Span → List Attribute → StructTree)
-struct_behind = word (sign s.BraceOpen) ▷ many (below MemberOf (λ x. x)) (λ xs. xs) ▷ word (sign s.BraceClose) ▷ word (sign s.Semicolon) ▷ nothing (λ z c ms o n p as'. record { attributes = as'; place = p; name = n; members = ms })
+abbrev pub struct_tail : P (Id → Span → List Attribute → StructTree)
+struct_tail = word (sign s.BraceOpen) ▷ many (below MemberOf (λ x. x)) (λ xs. xs) ▷ word (sign s.BraceClose) ▷ word (sign s.Semicolon) ▷ nothing (λ z c ms o n p as'. record { attributes = as'; place = p; name = n; members = ms })
 
 abbrev pub pointer_function : P (Id → Span → Item)
-pointer_function = word (sign s.Star) ▷ name ▷ function_behind ▷ nothing (λ f n a x p. i.Function (f n p (Some (e.Pointer x))))
+pointer_function = word (sign s.Star) ▷ name ▷ function_tail ▷ nothing (λ f n a x p. i.Function (f n p (Some (e.Pointer x))))
 
 abbrev pub result_type : P (Span × Option Ty)
 result_type = by_next (token (key k.Void) 0 (λ x. (x.place, None))) (int_type ▷ nothing (λ ty. (ty.0, Some ty.1)))
 
 abbrev pub item_of : R Item
 item_of =
-    pick (form (attribute_list ▷ many attribute_list (λ xs. xs) ▷ word (key k.Struct) ▷ name ▷ struct_behind ▷ nothing (λ f n p more one. i.Struct (f n p (concat (one ∷ more))))))
-    (pick (form (word (key k.Struct) ▷ name ▷ by_next (struct_behind ▷ nothing (λ f n p. i.Struct (f n p []))) pointer_function ▷ nothing (λ f n p. f n p))) (form (result_type ▷ name ▷ function_behind ▷ nothing (λ f n ty. i.Function (f n ty.0 ty.1)))))
+    pick (form (attribute_list ▷ many attribute_list (λ xs. xs) ▷ word (key k.Struct) ▷ name ▷ struct_tail ▷ nothing (λ f n p more one. i.Struct (f n p (concat (one ∷ more))))))
+    (pick (form (word (key k.Struct) ▷ name ▷ by_next (struct_tail ▷ nothing (λ f n p. i.Struct (f n p []))) pointer_function ▷ nothing (λ f n p. f n p))) (form (result_type ▷ name ▷ function_tail ▷ nothing (λ f n ty. i.Function (f n ty.0 ty.1)))))
 
 -- a program with an item at least
 abbrev pub program : R (List Item)

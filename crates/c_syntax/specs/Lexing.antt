@@ -25,9 +25,9 @@ abbrev pub behind_byte : ℕ → Position → Position
 behind_byte b p = if b == 10 then at (p.offset + 1) (p.place.line + 1) 1 else at (p.offset + 1) p.place.line (p.place.column + 1)
 
 -- the position behind a text
-abbrev pub behind : List ℕ → Position → Position
-behind [] p = p
-behind (b ∷ bs) p = behind bs (behind_byte b p)
+abbrev pub place_after : List ℕ → Position → Position
+place_after [] p = p
+place_after (b ∷ bs) p = place_after bs (behind_byte b p)
 
 -- a token in a source: its first byte's place, and where its text begins and ends
 pub record Lexeme : Type 0 where
@@ -71,8 +71,8 @@ pub record IsFirst (text : List ℕ) (word : Word) (n : ℕ) : Type 0 where
 -- Reaches p text tokens q rest: the text, which begins at p, is these tokens, with what is skipped before and between them, up to the rest, which begins at q.
 pub data Reaches : Position → List ℕ → List Lexeme → Position → List ℕ → Type 0 where
   here : {p : Position} {text : List ℕ} → Reaches p text [] p text
-  skip : {p q : Position} {text rest : List ℕ} {n : ℕ} {ts : List Lexeme} → Skips p text n → Reaches (behind (take n text) p) (drop n text) ts q rest → Reaches p text ts q rest
-  token : {p q : Position} {text rest : List ℕ} {word : Word} {n : ℕ} {ts : List Lexeme} → IsFirst text word n → Reaches (behind (take n text) p) (drop n text) ts q rest → Reaches p text (lexeme_at p word n ∷ ts) q rest
+  skip : {p q : Position} {text rest : List ℕ} {n : ℕ} {ts : List Lexeme} → Skips p text n → Reaches (place_after (take n text) p) (drop n text) ts q rest → Reaches p text ts q rest
+  token : {p q : Position} {text rest : List ℕ} {word : Word} {n : ℕ} {ts : List Lexeme} → IsFirst text word n → Reaches (place_after (take n text) p) (drop n text) ts q rest → Reaches p text (lexeme_at p word n ∷ ts) q rest
 
 -- The bytes are these tokens, of which the last is the end of the text.
 pub record Lexes (bytes : List ℕ) (tokens : List Lexeme) : Type 0 where

@@ -18,8 +18,8 @@ Again text Fits Ends item = (v : _) (rest : List ℕ) → Fits v → Ends rest �
 
 -- ---- so many items
 
-times_joined : {V : Type 0} (text : V → List ℕ) (v : V) (vs : List V) (bytes behind rest : List ℕ) → bytes ≡ text v ++ behind → behind ≡ flat_map text vs ++ rest → bytes ≡ flat_map text (v ∷ vs) ++ rest
-times_joined text v vs bytes behind rest e1 e2 = rw flat_map-cons (e1 ∙ ap (λ (t : List ℕ). text v ++ t) e2 ∙ sym (append_assoc (text v) (flat_map text vs) rest))
+times_joined : {V : Type 0} (text : V → List ℕ) (v : V) (vs : List V) (bytes following rest : List ℕ) → bytes ≡ text v ++ following → following ≡ flat_map text vs ++ rest → bytes ≡ flat_map text (v ∷ vs) ++ rest
+times_joined text v vs bytes following rest e1 e2 = rw flat_map-cons (e1 ∙ ap (λ (t : List ℕ). text v ++ t) e2 ∙ sym (append_assoc (text v) (flat_map text vs) rest))
 
 pub times_takes : {V : Type 0} (text : V → List ℕ) (Fits : V → Type 0) (item : List ℕ → Option (V × List ℕ)) (law : Takes text Fits item) (n : ℕ) (bytes : List ℕ) (x : List V × List ℕ)
     → times_at item n bytes ≡ Some x → (bytes ≡ flat_map text x.0 ++ x.1) × (length x.0 ≡ n) × AllByRecursion Fits x.0
@@ -50,8 +50,8 @@ spaced text v = 32 ∷ text v
 regrouped : {V : Type 0} (end : List ℕ) (text : V → List ℕ) (v : V) (vs : List V) (rest : List ℕ) → flat_map (spaced text) (v ∷ vs) ++ (end ++ rest) ≡ 32 ∷ (text v ++ (flat_map (spaced text) vs ++ (end ++ rest)))
 regrouped end text v vs rest = ap (λ (x : List ℕ). x ++ (end ++ rest)) (flat_map-cons (spaced text) v vs) ∙ ap (λ (x : List ℕ). 32 ∷ x) (append_assoc (text v) (flat_map (spaced text) vs) (end ++ rest))
 
-many_joined : {V : Type 0} (end : List ℕ) (text : V → List ℕ) (v : V) (vs : List V) (bytes word behind rest : List ℕ) → bytes ≡ 32 ∷ word → word ≡ text v ++ behind → behind ≡ flat_map (spaced text) vs ++ (end ++ rest) → bytes ≡ flat_map (spaced text) (v ∷ vs) ++ (end ++ rest)
-many_joined end text v vs bytes word behind rest e1 e2 e3 = e1 ∙ ap (λ (t : List ℕ). 32 ∷ t) (e2 ∙ ap (λ (t : List ℕ). text v ++ t) e3) ∙ sym (regrouped end text v vs rest)
+many_joined : {V : Type 0} (end : List ℕ) (text : V → List ℕ) (v : V) (vs : List V) (bytes word following rest : List ℕ) → bytes ≡ 32 ∷ word → word ≡ text v ++ following → following ≡ flat_map (spaced text) vs ++ (end ++ rest) → bytes ≡ flat_map (spaced text) (v ∷ vs) ++ (end ++ rest)
+many_joined end text v vs bytes word following rest e1 e2 e3 = e1 ∙ ap (λ (t : List ℕ). 32 ∷ t) (e2 ∙ ap (λ (t : List ℕ). text v ++ t) e3) ∙ sym (regrouped end text v vs rest)
 
 pub many_takes : {V : Type 0} (end : List ℕ) (text : V → List ℕ) (Fits : V → Type 0) (item : List ℕ → Option (V × List ℕ)) (law : Takes text Fits item) (k : ℕ) (bytes : List ℕ) (x : List V × List ℕ)
     → many_at end item k bytes ≡ Some x → (bytes ≡ flat_map (spaced text) x.0 ++ (end ++ x.1)) × AllByRecursion Fits x.0

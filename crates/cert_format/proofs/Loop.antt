@@ -15,12 +15,12 @@ regroup front x None = refl
 
 -- ---- so many items
 
-pub times_goes : {V : Type 0} (item : List ℕ → Option (V × List ℕ)) (front : List V) (count i : ℕ) (bytes : List ℕ) (x : V) (behind : List ℕ) (total : Option (List V × List ℕ)) → i < count → item bytes ≡ Some (x, behind)
-    → with_front front (times_at item (count - i) bytes) ≡ total → with_front (front ++ x ∷ []) (times_at item (count - (i + 1)) behind) ≡ total
+pub times_goes : {V : Type 0} (item : List ℕ → Option (V × List ℕ)) (front : List V) (count i : ℕ) (bytes : List ℕ) (x : V) (following : List ℕ) (total : Option (List V × List ℕ)) → i < count → item bytes ≡ Some (x, following)
+    → with_front front (times_at item (count - i) bytes) ≡ total → with_front (front ++ x ∷ []) (times_at item (count - (i + 1)) following) ≡ total
 unfolding times_at
-times_goes item front count i bytes x behind total lt h so_far =
+times_goes item front count i bytes x following total lt h so_far =
     let k : count - i ≡ suc (count - (i + 1)) = omega arith in
-    let one : with_front front (times_at item (count - i) bytes) ≡ with_front (front ++ x ∷ []) (times_at item (count - (i + 1)) behind) = rw (k, h) (regroup front x (times_at item (count - (i + 1)) behind)) in
+    let one : with_front front (times_at item (count - i) bytes) ≡ with_front (front ++ x ∷ []) (times_at item (count - (i + 1)) following) = rw (k, h) (regroup front x (times_at item (count - (i + 1)) following)) in
     sym one ∙ so_far
 
 pub times_fails : {V : Type 0} (item : List ℕ → Option (V × List ℕ)) (e : CertFault) (front : List V) (count i : ℕ) (bytes : List ℕ) (total : Option (List V × List ℕ)) → i < count → Fails e (item bytes)
@@ -50,25 +50,25 @@ above : (k n : ℕ) → n < k → (j : ℕ) × (k ≡ suc j) × (n ≤ j)
 above zero n lt = absurd (omega arith)
 above (suc j) n lt = (j, refl, omega arith)
 
-many_once : {V : Type 0} (end : List ℕ) (item : List ℕ → Option (V × List ℕ)) (front : List V) (k j : ℕ) (bytes word : List ℕ) (x : V) (behind : List ℕ)
-    → k ≡ suc j → text_at end bytes ≡ None → text_at (codes " ") bytes ≡ Some word → item word ≡ Some (x, behind) → with_front front (many_at end item k bytes) ≡ with_front (front ++ x ∷ []) (many_at end item j behind)
+many_once : {V : Type 0} (end : List ℕ) (item : List ℕ → Option (V × List ℕ)) (front : List V) (k j : ℕ) (bytes word : List ℕ) (x : V) (following : List ℕ)
+    → k ≡ suc j → text_at end bytes ≡ None → text_at (codes " ") bytes ≡ Some word → item word ≡ Some (x, following) → with_front front (many_at end item k bytes) ≡ with_front (front ++ x ∷ []) (many_at end item j following)
 unfolding many_at
-many_once end item front k j bytes word x behind e missing space h = rw (e, missing, space, h) (regroup front x (many_at end item j behind))
+many_once end item front k j bytes word x following e missing space h = rw (e, missing, space, h) (regroup front x (many_at end item j following))
 
-pub many_goes : {V : Type 0} (end : List ℕ) (item : List ℕ → Option (V × List ℕ)) (front : List V) (bytes word : List ℕ) (x : V) (behind : List ℕ) (total : Option (List V × List ℕ))
-    → text_at end bytes ≡ None → text_at (codes " ") bytes ≡ Some word → item word ≡ Some (x, behind) → length behind < length bytes
-    → Goes end item front bytes total → Goes end item (front ++ x ∷ []) behind total
+pub many_goes : {V : Type 0} (end : List ℕ) (item : List ℕ → Option (V × List ℕ)) (front : List V) (bytes word : List ℕ) (x : V) (following : List ℕ) (total : Option (List V × List ℕ))
+    → text_at end bytes ≡ None → text_at (codes " ") bytes ≡ Some word → item word ≡ Some (x, following) → length following < length bytes
+    → Goes end item front bytes total → Goes end item (front ++ x ∷ []) following total
 unfolding many_at
-many_goes end item front bytes word x behind total missing space h less so_far =
-    let a = above so_far.0 (length behind) (omega arith) in
-    (a.0, a.2, sym (many_once end item front so_far.0 a.0 bytes word x behind a.1 missing space h) ∙ so_far.2)
+many_goes end item front bytes word x following total missing space h less so_far =
+    let a = above so_far.0 (length following) (omega arith) in
+    (a.0, a.2, sym (many_once end item front so_far.0 a.0 bytes word x following a.1 missing space h) ∙ so_far.2)
 
-pub many_ended : {V : Type 0} (end : List ℕ) (item : List ℕ → Option (V × List ℕ)) (front : List V) (bytes behind : List ℕ) (total : Option (List V × List ℕ))
-    → text_at end bytes ≡ Some behind → length behind < length bytes → Goes end item front bytes total → total ≡ Some (front, behind)
+pub many_ended : {V : Type 0} (end : List ℕ) (item : List ℕ → Option (V × List ℕ)) (front : List V) (bytes following : List ℕ) (total : Option (List V × List ℕ))
+    → text_at end bytes ≡ Some following → length following < length bytes → Goes end item front bytes total → total ≡ Some (front, following)
 unfolding many_at
-many_ended end item front bytes behind total h less so_far =
-    let a = above so_far.0 (length behind) (omega arith) in
-    let one : with_front front (many_at end item so_far.0 bytes) ≡ Some (front, behind) = rw (a.1, h) (ap (λ (vs : List _). Some (vs, behind)) (append-nil front)) in
+many_ended end item front bytes following total h less so_far =
+    let a = above so_far.0 (length following) (omega arith) in
+    let one : with_front front (many_at end item so_far.0 bytes) ≡ Some (front, following) = rw (a.1, h) (ap (λ (vs : List _). Some (vs, following)) (append-nil front)) in
     sym so_far.2 ∙ one
 
 no_word : {V : Type 0} (end : List ℕ) (item : List ℕ → Option (V × List ℕ)) (k : ℕ) (bytes : List ℕ) → text_at end bytes ≡ None → text_at (codes " ") bytes ≡ None → many_at end item k bytes ≡ None

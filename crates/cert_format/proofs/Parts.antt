@@ -60,8 +60,8 @@ rule_again Trans rest = refl
 
 -- ---- a number that a rule takes
 
-minus_text : (c n : ℕ) (rest behind : List ℕ) → c ≡ 45 → (n ≡ 0 → ⊥) → rest ≡ decimal n ++ behind → (c ∷ rest) ≡ 45 ∷ (decimal (suc (n - 1)) ++ behind)
-minus_text c n rest behind is above e =
+minus_text : (c n : ℕ) (rest following : List ℕ) → c ≡ 45 → (n ≡ 0 → ⊥) → rest ≡ decimal n ++ following → (c ∷ rest) ≡ 45 ∷ (decimal (suc (n - 1)) ++ following)
+minus_text c n rest following is above e =
     let size : suc (n - 1) ≡ n = omega arith in
     rw (is, size) (ap (λ (t : List ℕ). 45 ∷ t) e)
 

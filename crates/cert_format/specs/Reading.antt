@@ -108,5 +108,5 @@ certificate_at bytes = do
   count ← natural_at 20000 word
   lines ← text_at (codes "\n") count.1
   blocks ← times_at block_at count.0 lines
-  behind ← text_at (codes "end\n") blocks.1
-  if length behind == 0 then Some blocks.0 else None
+  following ← text_at (codes "end\n") blocks.1
+  if length following == 0 then Some blocks.0 else None

@@ -73,12 +73,12 @@ fn digits(most: u128, bytes: &[u8]) -> Option<(u128, &[u8])>
 {
     let mut value = 0;
     let mut rest = bytes;
-    while let Some((byte, behind)) = rest.split_first() {
+    while let Some((byte, following)) = rest.split_first() {
         if !byte.is_ascii_digit() {
             return Some((value, rest));
         }
         value = with_digit(most, value, *byte)?;
-        rest = behind;
+        rest = following;
     }
     Some((value, rest))
 }
@@ -90,9 +90,9 @@ fn natural(most: u128, bytes: &[u8]) -> Option<(u128, &[u8])>
     ensures within { IfSome result (λ x. length x.1.now ≤ length bytes.now) }
     ensures most { IfSome result (λ x. x.0 ≤ most) }
 {
-    let (first, behind) = bytes.split_first()?;
+    let (first, following) = bytes.split_first()?;
     if *first == b'0' {
-        return Some((0, behind));
+        return Some((0, following));
     }
     if !first.is_ascii_digit() {
         return None;
@@ -125,12 +125,12 @@ fn number(bytes: &[u8]) -> Option<(i128, &[u8])>
     ensures reads { Finds (λ x. (x.0, x.1.now)) result (reading.number_at bytes.now) }
     ensures within { IfSome result (λ x. length x.1.now ≤ length bytes.now) }
 {
-    let (first, behind) = bytes.split_first()?;
+    let (first, following) = bytes.split_first()?;
     if *first != b'-' {
         let (number, rest) = natural(GREATEST_NUMBER, bytes)?;
         return Some((number as i128, rest));
     }
-    let (size, rest) = natural(GREATEST_NUMBER + 1, behind)?;
+    let (size, rest) = natural(GREATEST_NUMBER + 1, following)?;
     if size == 0 {
         return None;
     }
@@ -143,12 +143,12 @@ fn literal(bytes: &[u8]) -> Option<(Literal, &[u8])>
     ensures reads { Finds (λ x. (x.0, x.1.now)) result (reading.literal_at bytes.now) }
     ensures within { IfSome result (λ x. length x.1.now ≤ length bytes.now) }
 {
-    let (sign, behind) = bytes.split_first()?;
+    let (sign, following) = bytes.split_first()?;
     let positive = *sign == b'+';
     if !positive && *sign != b'-' {
         return None;
     }
-    let (term, rest) = count(GREATEST_TERM, behind)?;
+    let (term, rest) = count(GREATEST_TERM, following)?;
     Some((Literal { term, positive }, rest))
 }
 
@@ -185,17 +185,17 @@ fn numbers(alloc: Global, bytes: &[u8]) -> Result<(Vec<i128>, &[u8]), CertFault>
     let mut found = Vec::new(alloc);
     let mut rest = bytes;
     loop {
-        if let Some(behind) = take_text(b" =", rest) {
-            return Ok((found, behind));
+        if let Some(following) = take_text(b" =", rest) {
+            return Ok((found, following));
         }
         let Some(word) = take_text(b" ", rest) else {
             return Err(CertFault::Refused);
         };
-        let Some((number, behind)) = number(word) else {
+        let Some((number, following)) = number(word) else {
             return Err(CertFault::Refused);
         };
         found.push(number)?;
-        rest = behind;
+        rest = following;
     }
 }
 
@@ -207,17 +207,17 @@ fn clause(alloc: Global, bytes: &[u8]) -> Result<(Vec<Literal>, &[u8]), CertFaul
     let mut found = Vec::new(alloc);
     let mut rest = bytes;
     loop {
-        if let Some(behind) = take_text(b"\n", rest) {
-            return Ok((found, behind));
+        if let Some(following) = take_text(b"\n", rest) {
+            return Ok((found, following));
         }
         let Some(word) = take_text(b" ", rest) else {
             return Err(CertFault::Refused);
         };
-        let Some((literal, behind)) = literal(word) else {
+        let Some((literal, following)) = literal(word) else {
             return Err(CertFault::Refused);
         };
         found.push(literal)?;
-        rest = behind;
+        rest = following;
     }
 }
 
@@ -247,9 +247,9 @@ fn steps(alloc: Global, count: u32, bytes: &[u8]) -> Result<(Vec<Step>, &[u8]), 
     let mut found = Vec::new(alloc);
     let mut rest = bytes;
     for _ in 0..count {
-        let (step, behind) = step(alloc, rest)?;
+        let (step, following) = step(alloc, rest)?;
         found.push(step)?;
-        rest = behind;
+        rest = following;
     }
     Ok((found, rest))
 }
@@ -295,9 +295,9 @@ fn blocks(alloc: Global, count: u32, bytes: &[u8]) -> Result<(Vec<Refutation>, &
     let mut found = Vec::new(alloc);
     let mut rest = bytes;
     for _ in 0..count {
-        let (block, behind) = block(alloc, rest)?;
+        let (block, following) = block(alloc, rest)?;
         found.push(block)?;
-        rest = behind;
+        rest = following;
     }
     Ok((found, rest))
 }
@@ -311,8 +311,8 @@ fn certificate(alloc: Global, bytes: &[u8]) -> Result<Certificate, CertFault>
     let (condition_count, rest) = count(MOST_CONDITIONS, word).ok_or(CertFault::Refused)?;
     let lines = take_text(b"\n", rest).ok_or(CertFault::Refused)?;
     let (blocks, rest) = blocks(alloc, condition_count, lines)?;
-    let behind = take_text(b"end\n", rest).ok_or(CertFault::Refused)?;
-    if !behind.is_empty() {
+    let following = take_text(b"end\n", rest).ok_or(CertFault::Refused)?;
+    if !following.is_empty() {
         return Err(CertFault::Refused);
     }
     Ok(Certificate { blocks })

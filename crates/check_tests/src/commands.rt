@@ -1,6 +1,7 @@
 //! Worked rows, over a store and a sink in memory.
 
 use std::test::Fail;
+use test_sources::{FIRST, FIRST_CERT, LOCK, NONE_CERT, TYPING, WRONG_CERT};
 use vcc_base::memory::{MemSink, MemStore};
 use vcc_base::sink::{Sink, SinkFault};
 use vcc_cli::vcc_main;
@@ -28,8 +29,9 @@ s conn 2 16 = -16 +15\ns conn 2 15 = -15 +14\ns conn 2 14 = -14 +13\ns conn 1 13
 s conn 2 13 = -13 +12\ns trans 10 12 19 = -10 -12 +19\n\
 s chain 0 1 2 3 4 5 6 7 8 9 10 =\nend\n";
 
-/// Sources and certificates, with the line and the status that they get.
-const ROWS: [(&str, &str, &str, u8); 8] = [
+/// Sources and certificates, with the line and the status that they get; the last are the files of `examples/`, with the
+/// answers that its page gives.
+const ROWS: [(&str, &str, &str, u8); 12] = [
     (EMPTY, NO_CONDITIONS, "yes\n", 0),
     (FIVE, FIVE_STEPS, "yes\n", 0),
     (SAME, SAME_STEPS, "yes\n", 0),
@@ -53,6 +55,10 @@ const ROWS: [(&str, &str, &str, u8); 8] = [
         "no: main/1 Assert line 1\n",
         1,
     ),
+    (FIRST, FIRST_CERT, "yes\n", 0),
+    (FIRST, WRONG_CERT, "no: main/1 Assert line 4\n", 1),
+    (LOCK, NONE_CERT, "source: not built\n", 3),
+    (TYPING, NONE_CERT, "source 11:6: rule 1\n", 3),
 ];
 
 const USAGE: &str = "usage: vcc check SOURCE CERT\n";

@@ -1,6 +1,7 @@
 //! Sources, each with the terms of its conditions or its refusal. The expected texts were made by another program, written
 //! from the grammar, the translation and the numbering of docs/LANGUAGE.md and docs/CONDITIONS.md alone.
 
+use first_conditions::condition::{Condition, checks, condition_of};
 use first_form::tree::Program;
 use std::alloc::{AllocError, Global};
 use std::fmt::Write;
@@ -8,7 +9,6 @@ use std::test::Fail;
 use terms::term::Term;
 use vcc_cli::program::read_program;
 use vcc_cli::refusal::Refusal;
-use wp_gen::condition::{Condition, checks, condition_of};
 
 /// A source, and its conditions' terms from 0 on, with a bar between two conditions.
 const ROWS: &[(&str, &str)] = &[

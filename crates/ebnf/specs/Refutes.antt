@@ -148,10 +148,10 @@ module _ (g : Grammar) where
   at_once P room ts kind none = record { text = []; split = refl; none = none }
 
   -- a fault behind the front of a text
-  behind : {A B : Type 0} (P : Phrases g A) (Q : Phrases g B) (low high : ℕ) (front ts us : List g.T) (kind : Fault) (rest : List g.T) → us ≡ front ++ ts → Refuted P low ts kind rest
+  following : {A B : Type 0} (P : Phrases g A) (Q : Phrases g B) (low high : ℕ) (front ts us : List g.T) (kind : Fault) (rest : List g.T) → us ≡ front ++ ts → Refuted P low ts kind rest
       → ((text late : List g.T) → ts ≡ text ++ rest → next g late ≡ next g rest → (b : B) (h : ℕ) (end : List g.T) → (kind ≡ TooDeep → h ≤ high) → Q (front ++ (text ++ late)) b h end → (a : A) × (k : ℕ) × (last : List g.T) × (kind ≡ TooDeep → k ≤ low) × P (text ++ late) a k last)
       → Refuted Q high us kind rest
-  behind P Q low high front ts us kind rest e r to = record {
+  following P Q low high front ts us kind rest e r to = record {
     text = front ++ r.text;
     split = e ∙ ap (λ x. front ++ x) r.split ∙ sym (append_assoc front r.text rest);
     none = λ new same b h end small q. let x = to r.text new r.split same b h end small (subst (λ (w : List g.T). Q w b h end) (append_assoc front r.text new) q) in r.none new same x.0 x.1 x.2 x.3 x.4;
@@ -204,7 +204,7 @@ module _ (g : Grammar) where
         (λ b i mid d.
         let m = moves ts b i mid d.0 in
         err_go (Refuted (Repeats g P cs) room mid) _ (items g n r cs mid) _ (items_refute n mid (omega (arith, takes ts b i mid d.0)))
-        (λ kind rest x. behind (Repeats g P cs) (Repeats g P cs) room room m.text mid ts kind rest m.split x
+        (λ kind rest x. following (Repeats g P cs) (Repeats g P cs) room room m.text mid ts kind rest m.split x
         (λ text late split same bs h end small q.
         let p = m.is (text ++ late) (stays_behind g goes text mid rest late split (inl same)) in
         let e2 : has cs (next g (m.text ++ (text ++ late))) ≡ true = ap (has cs) (same_next m.text mid (text ++ late) ts m.split (same_next text rest late mid split same)) ∙ e in
@@ -232,7 +232,7 @@ module _ (g : Grammar) where
     ended_refute ts (inl b) i mid late d fault =
         let m = moves ts (inl b) i mid d in
         err_go (Refuted (AnyEnd P) room mid) _ late _ fault
-        (λ kind rest x. behind (AnyEnd P) (AnyEnd P) room room m.text mid ts kind rest m.split x
+        (λ kind rest x. following (AnyEnd P) (AnyEnd P) room room m.text mid ts kind rest m.split x
         (λ text last split same y h end small q.
         let p = m.is (text ++ last) (stays_behind g goes text mid rest last split (inl same)) in
         let f = later_ends y.0 y.1 (m.text ++ (text ++ last)) h end b i (text ++ last) p q in
@@ -282,7 +282,7 @@ module _ (g : Grammar) where
         (λ b i mid d.
         let m = moved p okp ts b i mid d.0 in
         err_go (Refuted (Derives g S q) room mid) _ (read g R room q mid) _ (refutes q okq (omega arith) mid)
-        (λ kind rest x. behind (Derives g S q) (Derives g S (row p q)) room room m.text mid ts kind rest m.split x
+        (λ kind rest x. following (Derives g S q) (Derives g S (row p q)) room room m.text mid ts kind rest m.split x
         (λ text late split same a h end small e.
         let z = late_part p okp ts b i mid d.0 text late rest split same e.0 e.3 e.2 e.5 in
         (e.1, e.4, end, (λ k. omega (arith, small k, e.8)), subst (λ (w : List g.T). Derives g S q w e.1 e.4 end) (sym z.0) e.6)))
@@ -300,11 +300,11 @@ module _ (g : Grammar) where
         let m = moved p okp ts b i mid d.0 in
         err_go _ _ (cond (t b) (read g R room q mid) (read g R room r mid)) _
         (err_if (Refuted (Derives g S (by_value p t q r)) room ts) (t b) (read g R room q mid) (read g R room r mid)
-        (λ v. err_to _ _ (read g R room q mid) (λ kind rest x. behind (Derives g S q) (Derives g S (by_value p t q r)) room room m.text mid ts kind rest m.split x
+        (λ v. err_to _ _ (read g R room q mid) (λ kind rest x. following (Derives g S q) (Derives g S (by_value p t q r)) room room m.text mid ts kind rest m.split x
         (λ text late split same a h end small e.
         let z = late_part p okp ts b i mid d.0 text late rest split same e.0 e.3 e.2 e.5 in
         (e.1, e.4, end, (λ k. omega (arith, small k, e.8)), subst (λ (w : List g.T). Derives g S q w e.1 e.4 end) (sym z.0) (chosen_true _ _ (t e.0) (ap t (sym z.1) ∙ v) e.6)))) (refutes q (and_left _ _ ok1) small_q mid))
-        (λ v. err_to _ _ (read g R room r mid) (λ kind rest x. behind (Derives g S r) (Derives g S (by_value p t q r)) room room m.text mid ts kind rest m.split x
+        (λ v. err_to _ _ (read g R room r mid) (λ kind rest x. following (Derives g S r) (Derives g S (by_value p t q r)) room room m.text mid ts kind rest m.split x
         (λ text late split same a h end small e.
         let z = late_part p okp ts b i mid d.0 text late rest split same e.0 e.3 e.2 e.5 in
         (e.1, e.4, end, (λ k. omega (arith, small k, e.8)), subst (λ (w : List g.T). Derives g S r w e.1 e.4 end) (sym z.0) (chosen_false _ _ (t e.0) (ap t (sym z.1) ∙ v) e.6)))) (refutes r (and_left _ _ ok2) small_r mid)))
@@ -379,7 +379,7 @@ module _ (g : Grammar) where
         (λ kind rest x. instead (Derives g S l) (LinksAny t l f left k) room (suc room) ts kind rest x (λ new same a h end small d. let y = head_link t l f left k d.0 new a h end (ap (λ c. t left && has (first g l) c) same ∙ e) d.1 in (y.0, y.1, y.2, (λ q. omega (arith, y.3, small q)), y.4)))
         (λ b i mid d.
         let m = moved l fine ts b i mid d.0 in
-        err_to _ _ (links g R room n t l f (f left b) (suc (max k i)) mid) (λ kind rest x. behind (LinksAny t l f (f left b) (suc (max k i))) (LinksAny t l f left k) (suc room) (suc room) m.text mid ts kind rest m.split x
+        err_to _ _ (links g R room n t l f (f left b) (suc (max k i)) mid) (λ kind rest x. following (LinksAny t l f (f left b) (suc (max k i))) (LinksAny t l f left k) (suc room) (suc room) m.text mid ts kind rest m.split x
         (λ text late split same a h end small y.
         let p = m.is (text ++ late) (stays_behind g (more g l) text mid rest late split (inl same)) in
         let e2 : (t left && has (first g l) (next g (m.text ++ (text ++ late)))) ≡ true = ap (λ c. t left && has (first g l) c) (same_next m.text mid (text ++ late) ts m.split (same_next text rest late mid split same)) ∙ e in
@@ -439,14 +439,14 @@ module _ (g : Grammar) where
         let le2 = le_true _ _ fits2 in
         let small_m : low g m ≤ room = omega (arith, flat_low g m ok.flat_m) in
         err_on (Refuted (Derives g S m) room mid) _ (Fits g (Derives g S m) room mid) (read g R room m mid) _ (refutes m ok.fine_m small_m mid) (is_read m ok.fine_m small_m mid)
-        (λ kind rest v. behind (Derives g S m) (ClimbsAny c m l left k) room (suc room) (x ∷ []) mid ts kind rest fx.0 v
+        (λ kind rest v. following (Derives g S m) (ClimbsAny c m l left k) room (suc room) (x ∷ []) mid ts kind rest fx.0 v
         (λ text late split same a h end small d.
         let y = climb_step c m l left k d.0 x (text ++ late) a h end (ap (has (first g m)) (same_next text rest late mid split same) ∙ goes) d.1 in
         (y.0, y.1, y.2, (λ q. omega (arith, y.3, small q)), y.4)))
         (λ f i rest d.
         let w = moved m ok.fine_m mid f i rest d.0 in
         let one = flat_high g S m ok.flat_m mid f i rest d.0 in
-        err_to _ _ (climbs g R room n c m l (f x left) (suc (max k i)) rest) (λ kind last v. behind (ClimbsAny c m l (f x left) (suc (max k i))) (ClimbsAny c m l left k) (suc room) (suc room) (x ∷ w.text) rest ts kind last (fx.0 ∙ ap (λ (us : List g.T). x ∷ us) w.split) v
+        err_to _ _ (climbs g R room n c m l (f x left) (suc (max k i)) rest) (λ kind last v. following (ClimbsAny c m l (f x left) (suc (max k i))) (ClimbsAny c m l left k) (suc room) (suc room) (x ∷ w.text) rest ts kind last (fx.0 ∙ ap (λ (us : List g.T). x ∷ us) w.split) v
         (λ text late split same a h end small y.
         let p = w.is (text ++ late) (stays_behind g (more g m) text rest last late split (inl same)) in
         let nexts : next g (w.text ++ (text ++ late)) ≡ next g mid = same_next w.text rest (text ++ late) mid w.split (same_next text last late rest split same) in
@@ -466,7 +466,7 @@ module _ (g : Grammar) where
         (λ goes.
         let small_l : low g l ≤ room = omega (arith, flat_low g l ok.flat_l) in
         err_go (Refuted (Derives g S l) room mid) _ (read g R room l mid) _ (refutes l ok.fine_l small_l mid)
-        (λ kind rest v. behind (Derives g S l) (ClimbsAny c m l left k) room (suc room) (x ∷ []) mid ts kind rest fx.0 v
+        (λ kind rest v. following (Derives g S l) (ClimbsAny c m l left k) room (suc room) (x ∷ []) mid ts kind rest fx.0 v
         (λ text late split same a h end small d.
         let y = climb_last c m l left k d.0 x (text ++ late) a h end (ap (has (first g m)) (same_next text rest late mid split same) ∙ goes) d.1 in
         (y.0, y.1, end, (λ q. omega (arith, y.2, small q)), y.3)))
@@ -516,7 +516,7 @@ module _ (g : Grammar) where
         (d.0, d.1, d.2, (λ k. omega (arith, small k)), d.4)))
         (λ left k mid d.
         let m = moved_rule s oks ts left k mid d.0 in
-        err_to _ _ (links g R room (suc room) t l f left k mid) (λ kind rest x. behind (LinksAny t l f left k) (DerivesRule g S (chain s t l f)) (suc room) (suc room) m.text mid ts kind rest m.split x
+        err_to _ _ (links g R room (suc room) t l f left k mid) (λ kind rest x. following (LinksAny t l f left k) (DerivesRule g S (chain s t l f)) (suc room) (suc room) m.text mid ts kind rest m.split x
         (λ text late split same a h end small e.
         let z = late_rule s oks ts left k mid d.0 text late rest split same e.0 e.1 e.2 e.4 in
         (a, h, end, small, subst (λ (y : A). LinksAny t l f y k (text ++ late) a h end) (sym z.1) (subst (λ (y : ℕ). LinksAny t l f e.0 y (text ++ late) a h end) (sym z.2) (subst (λ (y : List g.T). LinksAny t l f e.0 e.1 y a h end) (sym z.0) (e.3, e.5))))))
@@ -529,7 +529,7 @@ module _ (g : Grammar) where
         (d.0, d.1, d.2, (λ k. omega (arith, small k)), d.4)))
         (λ left k mid d.
         let v = moved s o.fine_s ts left k mid d.0 in
-        err_to _ _ (climbs g R room (suc room) c m l left k mid) (λ kind rest x. behind (ClimbsAny c m l left k) (DerivesRule g S (climb s c m l)) (suc room) (suc room) v.text mid ts kind rest v.split x
+        err_to _ _ (climbs g R room (suc room) c m l left k mid) (λ kind rest x. following (ClimbsAny c m l left k) (DerivesRule g S (climb s c m l)) (suc room) (suc room) v.text mid ts kind rest v.split x
         (λ text late split same a h end small e.
         let z = late_part s o.fine_s ts left k mid d.0 text late rest split same e.0 e.1 e.2 e.4 in
         (a, h, end, small, subst (λ (y : L). ClimbsAny c m l y k (text ++ late) a h end) (sym z.1) (subst (λ (y : ℕ). ClimbsAny c m l e.0 y (text ++ late) a h end) (sym z.2) (subst (λ (y : List g.T). ClimbsAny c m l e.0 e.1 y a h end) (sym z.0) (e.3, e.5))))))

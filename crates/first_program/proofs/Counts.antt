@@ -1,5 +1,5 @@
 -- Counts of statements, and names that stand once.
-use Rattle.std.proofs.Common.{◌≡◌, ℕ, suc, ◌+◌, ◌-◌, ◌<◌, List, ◌∷◌, map, drop, length, get_or, Bool, true, false, ◌&&◌, Option, Some, None, refl, ap, sym, ◌∙◌, arith, Vec, Global}
+use Rattle.std.proofs.Common.{◌≡◌, ℕ, suc, ◌+◌, ◌-◌, ◌<◌, List, ◌∷◌, Bool, true, false, ◌&&◌, Option, Some, None, ap, sym, ◌∙◌, arith, Vec, Global}
 use Rattle.std.specs.Prelude.{not, is_some, position, MatchOption}
 use Rattle.std.specs.Str.{bytes_eq}
 use Rattle.first_form.specs.Tree.{Stm, Stms, Assert, If, stm_count, stms_count}

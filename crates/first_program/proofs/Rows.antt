@@ -1,5 +1,5 @@
 -- What lies in vectors.
-use Rattle.std.proofs.Common.{◌≡◌, ℕ, List, [], ◌∷◌, ◌++◌, refl, ap, ap₂, ◌∙◌, Vec, map}
+use Rattle.std.proofs.Common.{◌≡◌, refl, ap, ap₂, ◌∙◌, Vec}
 use Rattle.std.specs.declared.alloc.Global.{Global}
 use mathlib.Core.Former.{Count}
 use Rattle.c_syntax.specs.declared.token.Span.{Span}

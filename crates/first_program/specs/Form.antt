@@ -1,5 +1,5 @@
 -- Which items are a program of the form that is judged so far: one function main over `int` parameters, with requires clauses, assertions and branches. Own: the form is a part of the language.
-use Rattle.std.specs.Prelude.{◌≡◌, ℕ, nat_le, Bool, true, false, ◌&&◌, not, if◌then◌else◌, List, [], ◌∷◌, length, codes, Option, Some, None, is_some, position}
+use Rattle.std.specs.Prelude.{ℕ, nat_le, Bool, true, ◌&&◌, not, if◌then◌else◌, List, [], ◌∷◌, length, codes, Option, Some, None, is_some, position}
 use Rattle.std.specs.Option.{option_map}
 use Rattle.std.specs.Str.{bytes_eq}
 use Rattle.int_ranges.specs.declared.ctype.CType.TheVariants as c

@@ -2,7 +2,7 @@
 use Rattle.std.specs.Prelude.{◌≡◌, ℕ, ◌≤◌, List, length, Some}
 use Rattle.c_syntax.specs.declared.token.Span.{Span}
 use Rattle.c_syntax.specs.Items.{Item}
-use Rattle.c_types.specs.First.{IsWellTyped}
+use Rattle.typing_spec.specs.First.{IsWellTyped}
 use Rattle.c_source.specs.Sources.{IsText, IsWithinLimits}
 use Rattle.first_form.specs.Tree.{Prog, stms_count}
 use Rattle.first_program.specs.Form.{program_of}

@@ -6,7 +6,7 @@ ghost use Rattle.first_form.specs.Tree as tree;
 ghost use Rattle.first_program.specs.Form as spec;
 ghost use Rattle.first_program.specs.Outcomes.{IsForm, names_of};
 
-use crate::fault::{FormFault, add, copied};
+use crate::fault::FormFault;
 use crate::names::find;
 use crate::statements::statements;
 use crate::truth::test;
@@ -46,7 +46,7 @@ fn clauses(
     let mut found = Vec::new(alloc);
     for one in contract {
         let one = clause(alloc, names, one)?;
-        add(&mut found, one)?;
+        found.push(one)?;
     }
     Ok(found)
 }
@@ -56,7 +56,7 @@ fn int_name(alloc: Global, parameter: &Parameter) -> Result<Vec<u8>, FormFault>
     ensures form { IsForm (λ v. v.items) result (spec.int_name (views.parameter parameter.now)) }
 {
     match &parameter.ty {
-        ValueType::Integer(CType::Int) => copied(alloc, &parameter.name.name),
+        ValueType::Integer(CType::Int) => Ok(Vec::from_slice(alloc, &parameter.name.name)?),
         _ => Err(FormFault::NotBuilt),
     }
 }
@@ -69,7 +69,7 @@ fn int_names(alloc: Global, parameters: &[Parameter]) -> Result<Vec<Vec<u8>>, Fo
     let mut found = Vec::new(alloc);
     for one in parameters {
         let one = int_name(alloc, one)?;
-        add(&mut found, one)?;
+        found.push(one)?;
     }
     Ok(found)
 }
@@ -107,8 +107,8 @@ fn behind_one(left: u32, stmt: &Stmt) -> Option<u32>
     }
     match stmt {
         Stmt::Assert(..) => Some(left - 1),
-        Stmt::If(_, _, then, otherwise) => match behind(left - 1, then) {
-            Some(left) => behind(left, otherwise),
+        Stmt::If(_, _, then, otherwise) => match following(left - 1, then) {
+            Some(left) => following(left, otherwise),
             None => None,
         },
     }
@@ -116,7 +116,7 @@ fn behind_one(left: u32, stmt: &Stmt) -> Option<u32>
 
 /// How many of so many statements are left behind these.
 #[cycle(count)]
-fn behind(left: u32, stmts: &[Stmt]) -> Option<u32>
+fn following(left: u32, stmts: &[Stmt]) -> Option<u32>
     ensures { MatchOption result (left < tree.stms_count (tree.stms stmts.now)) (λ more. more + tree.stms_count (tree.stms stmts.now) ≡ left) }
 {
     let mut more = left;
@@ -177,7 +177,7 @@ fn main_of(alloc: Global, function: &Function) -> Result<Program, FormFault>
 fn few(program: Program) -> Result<Program, FormFault>
     ensures form { IsForm tree.program result (spec.few (Some (tree.program program))) }
 {
-    if behind(MOST_STATEMENTS, &program.body).is_none() {
+    if following(MOST_STATEMENTS, &program.body).is_none() {
         return Err(FormFault::NotBuilt);
     }
     Ok(program)

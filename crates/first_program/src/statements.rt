@@ -6,7 +6,7 @@ ghost use Rattle.first_form.specs.Tree as tree;
 ghost use Rattle.first_program.specs.Form as spec;
 ghost use Rattle.first_program.specs.Outcomes.{IsForm, names_of};
 
-use crate::fault::{FormFault, add};
+use crate::fault::FormFault;
 use crate::truth::test;
 use c_syntax::expressions::Expr;
 use c_syntax::statements::Stmt as Statement;
@@ -84,7 +84,7 @@ pub fn statements(
     let mut found = Vec::new(alloc);
     for one in all {
         let one = statement(alloc, names, one)?;
-        add(&mut found, one)?;
+        found.push(one)?;
     }
     Ok(found)
 }

@@ -8,7 +8,7 @@ ghost use Rattle.first_program.specs.declared.fault.FormFault.TheVariants.{NotBu
 ghost use Rattle.first_program.specs.Form as spec;
 ghost use Rattle.first_program.specs.Outcomes.{IsForm, names_of};
 
-use crate::fault::{FormFault, boxed};
+use crate::fault::FormFault;
 use crate::names::operand;
 use c_syntax::expressions::Expr;
 use c_syntax::tree::{BinaryOperator, UnaryOperator};
@@ -39,8 +39,8 @@ fn comparison(
 fn conjunction(alloc: Global, left: Test, right: Test) -> Result<Test, FormFault>
     ensures form { IsForm bool_exp result (Some (And (bool_exp left) (bool_exp right))) }
 {
-    let left = boxed(alloc, left)?;
-    let right = boxed(alloc, right)?;
+    let left = Box::new(alloc, left)?;
+    let right = Box::new(alloc, right)?;
     Ok(Test::And(left, right))
 }
 
@@ -48,8 +48,8 @@ fn conjunction(alloc: Global, left: Test, right: Test) -> Result<Test, FormFault
 fn disjunction(alloc: Global, left: Test, right: Test) -> Result<Test, FormFault>
     ensures form { IsForm bool_exp result (Some (Or (bool_exp left) (bool_exp right))) }
 {
-    let left = boxed(alloc, left)?;
-    let right = boxed(alloc, right)?;
+    let left = Box::new(alloc, left)?;
+    let right = Box::new(alloc, right)?;
     Ok(Test::Or(left, right))
 }
 
@@ -62,7 +62,7 @@ fn negation(alloc: Global, names: &[Vec<u8>], operand: &Expr) -> Result<Test, Fo
     match operand {
         Expr::Group(_, inner) => {
             let inner = test(alloc, names, inner)?;
-            let inner = boxed(alloc, inner)?;
+            let inner = Box::new(alloc, inner)?;
             Ok(Test::Not(inner))
         }
         _ => Err(FormFault::NotBuilt),
@@ -76,7 +76,7 @@ fn group(alloc: Global, names: &[Vec<u8>], inner: &Expr) -> Result<Test, FormFau
     ensures form { IsForm bool_exp result (option_map Group (spec.test (names_of names.now) (exp inner.now))) }
 {
     let inner = test(alloc, names, inner)?;
-    let inner = boxed(alloc, inner)?;
+    let inner = Box::new(alloc, inner)?;
     Ok(Test::Group(inner))
 }
 

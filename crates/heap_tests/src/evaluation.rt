@@ -1,15 +1,16 @@
-//! Expressions on two heaps of a few objects, worked by hand. The objects are in `world`, the notation in `notation`.
+//! Expressions on two heaps of a few objects, worked by hand. The objects are in `world`.
 
-mod notation;
 mod world;
 
+use crate::notation::{Unread, read};
 use Gives::{At, Int, TooWide};
+use Question::{InFunction, OfEntry, OfObject};
 use int_ranges::exact::Wide;
 use object_types::references::Ref;
 use object_types::shapes::Entry;
 use object_types::values::{Value, Values};
 use spec_eval::env::EvalFault;
-use spec_eval::eval::{entry_holds, eval, holds, holds_of};
+use spec_eval::eval::{entry_holds, holds, holds_of};
 use std::alloc::Global;
 use std::process::Abort;
 use std::test::Fail;
@@ -36,18 +37,6 @@ fn wanted(gives: Gives) -> Result<Value, EvalFault> {
     }
 }
 
-/// Each text has its value, or its fault.
-fn hold(rt: &impl Abort, alloc: Global, rows: &[(&str, Gives)]) -> Result<(), Fail> {
-    let world = World::new(alloc)?;
-    for (text, gives) in rows {
-        let e = notation::read(alloc, *text)?;
-        let found = world.eval(&e);
-        let seen = wanted(*gives);
-        assert_eq!(rt; found, seen, "{text}");
-    }
-    Ok(())
-}
-
 const WORDS_AND_NUMBERS: &[(&str, Gives)] = &[
     ("7", Int(7)),
     ("-170141183460469231731687303715884105728", Int(LOW)),
@@ -66,11 +55,6 @@ const WORDS_AND_NUMBERS: &[(&str, Gives)] = &[
     ("! null", Int(1)),
     ("! a", Int(0)),
 ];
-
-#[test]
-fn words_and_numbers(rt: HostRuntime) -> Result<(), Fail> {
-    hold(&rt, rt.alloc(), WORDS_AND_NUMBERS)
-}
 
 const ARITHMETIC: &[(&str, Gives)] = &[
     ("+ 2 3", Int(5)),
@@ -102,11 +86,6 @@ const ARITHMETIC: &[(&str, Gives)] = &[
     ("- + big -1 -1", Int(BIG)),
 ];
 
-#[test]
-fn arithmetic(rt: HostRuntime) -> Result<(), Fail> {
-    hold(&rt, rt.alloc(), ARITHMETIC)
-}
-
 const COMPARISONS: &[(&str, Gives)] = &[
     ("< 2 3", Int(1)),
     ("< 3 3", Int(0)),
@@ -127,11 +106,6 @@ const COMPARISONS: &[(&str, Gives)] = &[
     ("== + big 1 - low 1", TooWide(BIG, 1)),
     ("< 1 - low 1", TooWide(LOW, 1)),
 ];
-
-#[test]
-fn comparisons(rt: HostRuntime) -> Result<(), Fail> {
-    hold(&rt, rt.alloc(), COMPARISONS)
-}
 
 const CONNECTIVES: &[(&str, Gives)] = &[
     ("&& 2 3", Int(1)),
@@ -157,11 +131,6 @@ const CONNECTIVES: &[(&str, Gives)] = &[
     ("?: + big 1 7 8", TooWide(BIG, 1)),
     ("?: null a b", At(3, 2)),
 ];
-
-#[test]
-fn connectives(rt: HostRuntime) -> Result<(), Fail> {
-    hold(&rt, rt.alloc(), CONNECTIVES)
-}
 
 const HEAPS_AND_STATUSES: &[(&str, Gives)] = &[
     ("->n a", Int(5)),
@@ -190,11 +159,6 @@ const HEAPS_AND_STATUSES: &[(&str, Gives)] = &[
     ("mutable g", Int(0)),
     ("mutable f", Int(0)),
 ];
-
-#[test]
-fn heaps_and_statuses(rt: HostRuntime) -> Result<(), Fail> {
-    hold(&rt, rt.alloc(), HEAPS_AND_STATUSES)
-}
 
 // At the function's entry x is 6, p is b, a is open, another thread's and owns b alone, and a->n is 4.
 const THE_EARLIER_HEAP: &[(&str, Gives)] = &[
@@ -226,11 +190,6 @@ const THE_EARLIER_HEAP: &[(&str, Gives)] = &[
     ("unchanged + big x", TooWide(BIG, 6)),
 ];
 
-#[test]
-fn the_earlier_heap(rt: HostRuntime) -> Result<(), Fail> {
-    hold(&rt, rt.alloc(), THE_EARLIER_HEAP)
-}
-
 // The claim k claims b and w. It was made with shape 0 at b and 7, shape 1 at me, a and 42, and shape 2 at c.
 const CLAIMS: &[(&str, Gives)] = &[
     ("claims_object k b", Int(1)),
@@ -259,11 +218,6 @@ const CLAIMS: &[(&str, Gives)] = &[
     ("some obj a 1 claims k 1 has 2 q .", Int(1)),
     ("all obj a claims k 1 has 2 q .", Int(0)),
 ];
-
-#[test]
-fn claims(rt: HostRuntime) -> Result<(), Fail> {
-    hold(&rt, rt.alloc(), CLAIMS)
-}
 
 // Now a owns b, c and d, of the types 3, 4 and 4, with 10, -3 and the greatest number in n.
 const QUANTIFIERS: &[(&str, Gives)] = &[
@@ -296,89 +250,129 @@ const QUANTIFIERS: &[(&str, Gives)] = &[
     ("&& in a this in + big 1 this", Int(0)),
 ];
 
-#[test]
-fn quantifiers(rt: HostRuntime) -> Result<(), Fail> {
-    hold(&rt, rt.alloc(), QUANTIFIERS)
-}
+/// Each text with its value, or its fault.
+const TABLES: &[&[(&str, Gives)]] = &[
+    WORDS_AND_NUMBERS,
+    ARITHMETIC,
+    COMPARISONS,
+    CONNECTIVES,
+    HEAPS_AND_STATUSES,
+    THE_EARLIER_HEAP,
+    CLAIMS,
+    QUANTIFIERS,
+];
 
 #[test]
-fn what_holds_in_a_function(rt: HostRuntime) -> Result<(), Fail> {
+fn values_of_expressions(rt: HostRuntime) -> Result<(), Fail> {
     let world = World::new(rt.alloc())?;
-    for (text, wanted) in [
-        ("x", Ok(true)),
-        ("null", Ok(false)),
-        ("== x 6", Ok(false)),
-        ("old == x 6", Ok(true)),
-        ("+ big 1", Err(EvalFault::Wide(Wide { a: BIG, b: 1 }))),
-    ] {
-        let e = notation::read(rt.alloc(), text)?;
-        let found = holds(&world.program, &e, &world.before, &world.after, &world.env);
-        assert_eq!(rt; found, wanted, "{text}");
+    for table in TABLES {
+        for (text, gives) in *table {
+            let e = read(rt.alloc(), *text)?;
+            assert!(rt; world.eval(&e) == wanted(*gives), "{text}");
+        }
     }
     Ok(())
 }
+
+/// What may hold: an expression in the function, one of an object, or a claim's conjunct of this shape with these values in
+/// the later heap.
+enum Question<'a> {
+    InFunction(&'a str),
+    OfObject(&'a str, Ref),
+    OfEntry(u32, &'a [Value]),
+}
+
+const WIDE: Result<bool, EvalFault> = Err(EvalFault::Wide(Wide { a: BIG, b: 1 }));
+
+const WIDE_OF_FIVE: Result<bool, EvalFault> = Err(EvalFault::Wide(Wide { a: 5, b: BIG - 4 }));
 
 // The words of an invariant are `\this` and `\old`; all others are NULL or 0.
+// Shape 0 is `hole 0 -> n == hole 1`, shape 1 is `hole 0 + 1 > 0`; there is no shape 7.
+const WHAT_HOLDS: &[(Question<'static>, Result<bool, EvalFault>)] = &[
+    (InFunction("x"), Ok(true)),
+    (InFunction("null"), Ok(false)),
+    (InFunction("== x 6"), Ok(false)),
+    (InFunction("old == x 6"), Ok(true)),
+    (InFunction("+ big 1"), WIDE),
+    (OfObject("== ->n this 5", A), Ok(true)),
+    (OfObject("== ->n this 5", B), Ok(false)),
+    (OfObject("old == ->n this 4", A), Ok(true)),
+    (OfObject("unchanged ->n this", B), Ok(true)),
+    (OfObject("== me null", A), Ok(true)),
+    (OfObject("== big 0", A), Ok(true)),
+    (OfObject("== result 0", A), Ok(true)),
+    (
+        OfObject("+ ->n this 170141183460469231731687303715884105723", A),
+        WIDE_OF_FIVE,
+    ),
+    (OfEntry(0, &[Value::Ref(B), Value::Int(10)]), Ok(true)),
+    (OfEntry(0, &[Value::Ref(B), Value::Int(9)]), Ok(false)),
+    (OfEntry(0, &[Value::Ref(A), Value::Int(4)]), Ok(false)),
+    (OfEntry(0, &[Value::Ref(A)]), Ok(false)),
+    (OfEntry(1, &[Value::Int(0)]), Ok(true)),
+    (OfEntry(1, &[Value::Int(-1)]), Ok(false)),
+    (OfEntry(1, &[Value::Int(BIG)]), WIDE),
+    (OfEntry(7, &[]), Ok(true)),
+];
+
+/// Whether the answer to the question is this.
+fn is_answered(
+    alloc: Global,
+    world: &World,
+    question: &Question<'_>,
+    answer: Result<bool, EvalFault>,
+) -> Result<bool, Unread> {
+    let World {
+        program,
+        before,
+        after,
+        env,
+    } = world;
+    match question {
+        Question::InFunction(text) => {
+            let e = read(alloc, *text)?;
+            Ok(holds(program, &e, before, after, env) == answer)
+        }
+        Question::OfObject(text, o) => {
+            let e = read(alloc, *text)?;
+            Ok(holds_of(program, &e, before, after, *o) == answer)
+        }
+        Question::OfEntry(shape, values) => {
+            let values = Values::from_slice(alloc, *values)?;
+            let entry = Entry {
+                shape: *shape,
+                values,
+            };
+            Ok(entry_holds(program, after, &entry) == answer)
+        }
+    }
+}
+
 #[test]
-fn what_holds_of_an_object(rt: HostRuntime) -> Result<(), Fail> {
+fn what_holds(rt: HostRuntime) -> Result<(), Fail> {
     let world = World::new(rt.alloc())?;
-    for (text, o, wanted) in [
-        ("== ->n this 5", A, Ok(true)),
-        ("== ->n this 5", B, Ok(false)),
-        ("old == ->n this 4", A, Ok(true)),
-        ("unchanged ->n this", B, Ok(true)),
-        ("== me null", A, Ok(true)),
-        ("== big 0", A, Ok(true)),
-        ("== result 0", A, Ok(true)),
-        (
-            "+ ->n this 170141183460469231731687303715884105723",
-            A,
-            Err(EvalFault::Wide(Wide { a: 5, b: BIG - 4 })),
-        ),
-    ] {
-        let e = notation::read(rt.alloc(), text)?;
-        let found = holds_of(&world.program, &e, &world.before, &world.after, o);
-        assert_eq!(rt; found, wanted, "{text}");
+    for (place, (question, answer)) in WHAT_HOLDS.iter().enumerate() {
+        assert!(rt;
+            is_answered(rt.alloc(), &world, question, *answer)?,
+            "row {place}"
+        );
     }
     Ok(())
 }
 
-// Shape 0 is `hole 0 -> n == hole 1`, shape 1 is `hole 0 + 1 > 0`; there is no shape 7.
-#[test]
-fn what_holds_of_a_heap(rt: HostRuntime) -> Result<(), Fail> {
-    let world = World::new(rt.alloc())?;
-    for (shape, values, wanted) in [
-        (0, [Value::Ref(B), Value::Int(10)].as_slice(), Ok(true)),
-        (0, [Value::Ref(B), Value::Int(9)].as_slice(), Ok(false)),
-        (0, [Value::Ref(A), Value::Int(4)].as_slice(), Ok(false)),
-        (0, [Value::Ref(A)].as_slice(), Ok(false)),
-        (1, [Value::Int(0)].as_slice(), Ok(true)),
-        (1, [Value::Int(-1)].as_slice(), Ok(false)),
-        (
-            1,
-            [Value::Int(BIG)].as_slice(),
-            Err(EvalFault::Wide(Wide { a: BIG, b: 1 })),
-        ),
-        (7, [].as_slice(), Ok(true)),
-    ] {
-        let values = Values::from_slice(rt.alloc(), values)?;
-        let entry = Entry { shape, values };
-        let found = entry_holds(&world.program, &world.after, &entry);
-        assert_eq!(rt; found, wanted, "shape {shape}");
-    }
-    Ok(())
+fn check(rt: &impl Abort, text: &str, wanted: &str) {
+    assert_eq!(rt; text, wanted);
 }
 
 #[test]
 fn faults_say_why(rt: HostRuntime) -> Result<(), Fail> {
     let wide = EvalFault::Wide(Wide { a: BIG, b: 1 });
-    let text = format!(in rt.alloc(); "{wide}")?;
-    assert_eq!(rt;
-        text.as_str(),
-        "the exact result of 170141183460469231731687303715884105727 and 1 leaves 128 bits"
-    );
     let memory = EvalFault::OutOfMemory;
-    let text = format!(in rt.alloc(); "{memory}")?;
-    assert_eq!(rt; text.as_str(), "out of memory");
+    let text = format!(in rt.alloc(); "{wide}; {memory}")?;
+    check(
+        &rt,
+        text.as_str(),
+        "the exact result of 170141183460469231731687303715884105727 and 1 leaves 128 bits; out of memory",
+    );
     Ok(())
 }

@@ -1,9 +1,15 @@
 //! What the calls give after a few changes, worked by hand.
 
+use crate::changes::{Change, apply};
+use Change::{Conjunct, Count, List, Own, Status, Write};
+use Mode::{Absent, Closed, Freed, Open};
+use Row::{Conjuncts, Do, Entry, First, Fresh, Full, Last, Listed, Owned, Read, Same, View};
+use Value::Int;
 use object_types::heap::Heap;
 use object_types::records::{Mode, RecordView};
 use object_types::references::{NULL, Ref};
 use object_types::values::Value;
+use std::alloc::AllocError;
 use std::test::Fail;
 
 const THREAD: Ref = Ref { ty: 1, serial: 1 };
@@ -16,207 +22,312 @@ const B: Ref = Ref { ty: 3, serial: 2 };
 
 const C: Ref = Ref { ty: 4, serial: 1 };
 
-#[test]
-#[tactic(auto, unfolding(object_types::specs::References::same_ref))]
-fn reads_what_was_written(rt: HostRuntime) -> Result<(), Fail> {
-    let mut heap = Heap::empty(rt.alloc());
-    let zero = Value::Int(0);
-    for (o, field, value, seen) in [
-        (B, 7, Value::Int(5), Value::Int(5)),
-        (A, 7, Value::Int(i128::MIN), Value::Int(i128::MIN)),
-        (A, 0, Value::Ref(C), Value::Ref(C)),
-        (A, 9, Value::Int(i128::MAX), Value::Int(i128::MAX)),
-        (A, 7, Value::Int(-1), Value::Int(-1)),
-        (A, 7, Value::Int(0), zero),
-        (A, 0, Value::Ref(NULL), zero),
-    ] {
-        heap.write(o, field, value)?;
-        assert!(rt; heap.read(o, field, zero) == seen, "at {field}");
-    }
-    for (o, field, seen) in [
-        (B, 7, Value::Int(5)),
-        (A, 9, Value::Int(i128::MAX)),
-        (A, 7, Value::Ref(NULL)),
-        (A, 8, Value::Ref(NULL)),
-        (C, 9, Value::Ref(NULL)),
-    ] {
-        assert!(rt; heap.read(o, field, Value::Ref(NULL)) == seen, "at {field}");
-    }
-    Ok(())
+/// A change of the heap, or what the heap shows.
+enum Row<'a> {
+    Do(Change<'a>),
+    /// The value of a field, where the first value stands for none.
+    Read(Ref, u32, Value, Value),
+    View(Ref, Mode, Ref, i128),
+    Owned(Ref, &'a [Ref]),
+    Listed(Ref, &'a [Ref]),
+    /// How many conjuncts a claim has.
+    Conjuncts(Ref, usize),
+    /// A claim's conjunct at a place: its shape and its values.
+    Entry(Ref, usize, u32, &'a [Value]),
+    /// The fresh reference of its type.
+    Fresh(Ref),
+    /// No reference of the type is fresh.
+    Full(u32),
+    First(Ref, Ref),
+    /// No record stands at the reference or after it.
+    Last(Ref),
+    /// Whether a copy with the change has the same content at A.
+    Same(Change<'a>, bool),
 }
 
-#[test]
-fn views_what_was_set(rt: HostRuntime) -> Result<(), Fail> {
-    let mut heap = Heap::empty(rt.alloc());
-    for (o, mode, owner, count) in [
-        (C, Mode::Open, THREAD, 0),
-        (A, Mode::Closed, C, 2),
-        (B, Mode::Closed, THREAD, i128::MAX),
-        (A, Mode::Freed, NULL, 2),
-    ] {
-        heap.set_status(o, mode, owner)?;
-        heap.set_count(o, count)?;
-        assert!(rt;
-            heap.view(o) == RecordView { mode, owner, count },
-            "at {count}"
-        );
+const READS: &[Row<'static>] = &[
+    Do(Write(B, 7, Int(5))),
+    Read(B, 7, Int(0), Int(5)),
+    Do(Write(A, 7, Int(i128::MIN))),
+    Read(A, 7, Int(0), Int(i128::MIN)),
+    Do(Write(A, 0, Value::Ref(C))),
+    Read(A, 0, Int(0), Value::Ref(C)),
+    Do(Write(A, 9, Int(i128::MAX))),
+    Read(A, 9, Int(0), Int(i128::MAX)),
+    Do(Write(A, 7, Int(-1))),
+    Read(A, 7, Int(0), Int(-1)),
+    Do(Write(A, 7, Int(0))),
+    Read(A, 7, Int(0), Int(0)),
+    Do(Write(A, 0, Value::Ref(NULL))),
+    Read(A, 0, Int(0), Int(0)),
+    Read(B, 7, Value::Ref(NULL), Int(5)),
+    Read(A, 9, Value::Ref(NULL), Int(i128::MAX)),
+    Read(A, 7, Value::Ref(NULL), Value::Ref(NULL)),
+    Read(A, 8, Value::Ref(NULL), Value::Ref(NULL)),
+    Read(C, 9, Value::Ref(NULL), Value::Ref(NULL)),
+];
+
+const VIEWS: &[Row<'static>] = &[
+    Do(Status(C, Open, THREAD)),
+    Do(Count(C, 0)),
+    View(C, Open, THREAD, 0),
+    Do(Status(A, Closed, C)),
+    Do(Count(A, 2)),
+    View(A, Closed, C, 2),
+    Do(Status(B, Closed, THREAD)),
+    Do(Count(B, i128::MAX)),
+    View(B, Closed, THREAD, i128::MAX),
+    Do(Status(A, Freed, NULL)),
+    Do(Count(A, 2)),
+    View(A, Freed, NULL, 2),
+    View(C, Open, THREAD, 0),
+    View(CLAIM, Absent, NULL, 0),
+];
+
+// Each object is listed just when it is owned, and first the other way round.
+const SETS: &[Row<'static>] = &[
+    Do(Own(A, C, true)),
+    Do(List(CLAIM, C, false)),
+    Do(List(CLAIM, C, true)),
+    Owned(A, &[C]),
+    Listed(CLAIM, &[C]),
+    Do(Own(A, A, true)),
+    Do(List(CLAIM, A, false)),
+    Do(List(CLAIM, A, true)),
+    Owned(A, &[A, C]),
+    Listed(CLAIM, &[A, C]),
+    Do(Own(A, B, true)),
+    Do(List(CLAIM, B, false)),
+    Do(List(CLAIM, B, true)),
+    Owned(A, &[A, B, C]),
+    Listed(CLAIM, &[A, B, C]),
+    Do(Own(A, B, true)),
+    Do(List(CLAIM, B, false)),
+    Do(List(CLAIM, B, true)),
+    Owned(A, &[A, B, C]),
+    Listed(CLAIM, &[A, B, C]),
+    Do(Own(A, A, false)),
+    Do(List(CLAIM, A, true)),
+    Do(List(CLAIM, A, false)),
+    Owned(A, &[B, C]),
+    Listed(CLAIM, &[B, C]),
+    Do(Own(A, A, false)),
+    Do(List(CLAIM, A, true)),
+    Do(List(CLAIM, A, false)),
+    Owned(A, &[B, C]),
+    Listed(CLAIM, &[B, C]),
+    Do(Own(A, NULL, true)),
+    Do(List(CLAIM, NULL, false)),
+    Do(List(CLAIM, NULL, true)),
+    Owned(A, &[NULL, B, C]),
+    Listed(CLAIM, &[NULL, B, C]),
+    Owned(CLAIM, &[]),
+    Listed(A, &[]),
+    Owned(B, &[]),
+];
+
+const CONJUNCTS: &[Row<'static>] = &[
+    Do(Conjunct(CLAIM, 2, &[Int(1)], true)),
+    Do(Conjunct(CLAIM, 1, &[Value::Ref(A)], true)),
+    Do(Conjunct(CLAIM, 1, &[Int(-1), Value::Ref(A)], true)),
+    Do(Conjunct(CLAIM, 1, &[Int(-1)], true)),
+    Do(Conjunct(CLAIM, 3, &[], true)),
+    Do(Conjunct(CLAIM, 1, &[Int(1)], true)),
+    Do(Conjunct(CLAIM, 1, &[Int(-1)], true)),
+    Do(Conjunct(CLAIM, 3, &[], false)),
+    Do(Conjunct(CLAIM, 4, &[Int(1)], false)),
+    Conjuncts(CLAIM, 5),
+    Entry(CLAIM, 0, 1, &[Int(-1)]),
+    Entry(CLAIM, 1, 1, &[Int(-1), Value::Ref(A)]),
+    Entry(CLAIM, 2, 1, &[Int(1)]),
+    Entry(CLAIM, 3, 1, &[Value::Ref(A)]),
+    Entry(CLAIM, 4, 2, &[Int(1)]),
+    Conjuncts(A, 0),
+];
+
+const FRESH: &[Row<'static>] = &[
+    Do(Status(Ref { ty: 3, serial: 5 }, Absent, THREAD)),
+    Do(Write(Ref { ty: 3, serial: 5 }, 0, Int(1))),
+    Fresh(Ref { ty: 3, serial: 1 }),
+    Do(Status(Ref { ty: 3, serial: 0 }, Open, THREAD)),
+    Do(Write(Ref { ty: 3, serial: 0 }, 0, Int(1))),
+    Fresh(Ref { ty: 3, serial: 1 }),
+    Do(Status(Ref { ty: 3, serial: 1 }, Open, THREAD)),
+    Do(Write(Ref { ty: 3, serial: 1 }, 0, Int(1))),
+    Fresh(Ref { ty: 3, serial: 2 }),
+    Do(Status(Ref { ty: 3, serial: 4 }, Freed, THREAD)),
+    Do(Write(Ref { ty: 3, serial: 4 }, 0, Int(1))),
+    Fresh(Ref { ty: 3, serial: 5 }),
+    Do(Status(Ref { ty: 3, serial: 2 }, Closed, THREAD)),
+    Do(Write(Ref { ty: 3, serial: 2 }, 0, Int(1))),
+    Fresh(Ref { ty: 3, serial: 5 }),
+    Do(Status(
+        Ref {
+            ty: 2,
+            serial: 4294967295,
+        },
+        Closed,
+        THREAD,
+    )),
+    Do(Write(
+        Ref {
+            ty: 2,
+            serial: 4294967295,
+        },
+        0,
+        Int(1),
+    )),
+    Full(2),
+    Do(Status(
+        Ref {
+            ty: 3,
+            serial: 4294967294,
+        },
+        Open,
+        THREAD,
+    )),
+    Do(Write(
+        Ref {
+            ty: 3,
+            serial: 4294967294,
+        },
+        0,
+        Int(1),
+    )),
+    Fresh(Ref {
+        ty: 3,
+        serial: 4294967295,
+    }),
+    Do(Status(
+        Ref {
+            ty: 3,
+            serial: 4294967294,
+        },
+        Absent,
+        THREAD,
+    )),
+    Do(Write(
+        Ref {
+            ty: 3,
+            serial: 4294967294,
+        },
+        0,
+        Int(1),
+    )),
+    Fresh(Ref { ty: 3, serial: 5 }),
+    Do(Status(
+        Ref {
+            ty: 4294967295,
+            serial: 9,
+        },
+        Open,
+        THREAD,
+    )),
+    Do(Write(
+        Ref {
+            ty: 4294967295,
+            serial: 9,
+        },
+        0,
+        Int(1),
+    )),
+    Fresh(Ref {
+        ty: 4294967295,
+        serial: 10,
+    }),
+    Fresh(Ref { ty: 4, serial: 1 }),
+];
+
+const FIRSTS: &[Row<'static>] = &[
+    Last(NULL),
+    Do(Status(C, Freed, NULL)),
+    Do(Write(A, 0, Int(1))),
+    Do(Own(B, A, true)),
+    Do(Own(B, A, false)),
+    First(NULL, A),
+    First(A, A),
+    First(B, C),
+    First(C, C),
+    Last(Ref { ty: 4, serial: 2 }),
+];
+
+const CONTENTS: &[Row<'static>] = &[
+    Do(Count(A, 1)),
+    Do(Write(A, 0, Int(1))),
+    Do(Own(A, B, true)),
+    Do(List(A, B, true)),
+    Do(Conjunct(A, 0, &[Int(1)], true)),
+    Same(Count(A, 2), false),
+    Same(Write(A, 1, Int(1)), false),
+    Same(Own(A, B, false), false),
+    Same(List(A, C, true), false),
+    Same(Conjunct(A, 0, &[Int(2)], true), false),
+    Same(Status(A, Freed, C), true),
+];
+
+fn has_entry(h: &Heap, c: Ref, place: usize, shape: u32, values: &[Value]) -> bool {
+    match h.shapes(c).get(place) {
+        Some(entry) => entry.shape == shape && entry.values.as_slice() == values,
+        None => false,
     }
-    assert!(rt;
-        heap.view(C)
-            == RecordView {
-                mode: Mode::Open,
-                owner: THREAD,
-                count: 0
-            }
-    );
-    assert!(rt;
-        heap.view(CLAIM)
-            == RecordView {
-                mode: Mode::Absent,
-                owner: NULL,
-                count: 0
-            }
-    );
-    Ok(())
 }
 
-#[test]
-fn sets_stand_in_order(rt: HostRuntime) -> Result<(), Fail> {
-    let mut heap = Heap::empty(rt.alloc());
-    for (member, holds, owned) in [
-        (C, true, [C].as_slice()),
-        (A, true, [A, C].as_slice()),
-        (B, true, [A, B, C].as_slice()),
-        (B, true, [A, B, C].as_slice()),
-        (A, false, [B, C].as_slice()),
-        (A, false, [B, C].as_slice()),
-        (NULL, true, [NULL, B, C].as_slice()),
-    ] {
-        heap.set_owned(A, member, holds)?;
-        heap.set_listed(CLAIM, member, !holds)?;
-        heap.set_listed(CLAIM, member, holds)?;
-        assert!(rt; heap.owned(A) == owned && heap.listed(CLAIM) == owned);
-    }
-    assert!(rt;
-        heap.owned(CLAIM).is_empty() && heap.listed(A).is_empty() && heap.owned(B).is_empty()
-    );
-    Ok(())
+/// Whether a copy has the same content at A and B, and with the change at B, and at A where `is_same` says so.
+fn is_same_after(h: &Heap, change: Change<'_>, is_same: bool) -> Result<bool, AllocError> {
+    let mut other = h.copy()?;
+    let was_same = other.same_content(h, A);
+    apply(&mut other, change)?;
+    Ok(was_same && other.same_content(h, A) == is_same && h.same_content(&other, B))
 }
 
-#[test]
-fn conjuncts_stand_in_order(rt: HostRuntime) -> Result<(), Fail> {
-    let mut heap = Heap::empty(rt.alloc());
-    let minus = Value::Int(-1);
-    let one = Value::Int(1);
-    let a = Value::Ref(A);
-    for (shape, values) in [
-        (2, [one].as_slice()),
-        (1, [a].as_slice()),
-        (1, [minus, a].as_slice()),
-        (1, [minus].as_slice()),
-        (3, [].as_slice()),
-        (1, [one].as_slice()),
-        (1, [minus].as_slice()),
-    ] {
-        heap.set_shape(CLAIM, shape, values, true)?;
-    }
-    heap.set_shape(CLAIM, 3, &[], false)?;
-    heap.set_shape(CLAIM, 4, &[one], false)?;
-    let seen = heap.shapes(CLAIM);
-    assert!(rt; seen.len() == 5);
-    for (i, shape, values) in [
-        (0, 1, [minus].as_slice()),
-        (1, 1, [minus, a].as_slice()),
-        (2, 1, [one].as_slice()),
-        (3, 1, [a].as_slice()),
-        (4, 2, [one].as_slice()),
-    ] {
-        let Some(entry) = seen.get(i) else {
-            continue;
-        };
-        assert!(rt;
-            entry.shape == shape && entry.values.as_slice() == values,
-            "at {i}"
-        );
-    }
-    assert!(rt; heap.shapes(A).is_empty());
-    Ok(())
-}
-
-#[test]
-fn fresh_is_above_all_used(rt: HostRuntime) -> Result<(), Fail> {
-    let mut heap = Heap::empty(rt.alloc());
-    for (ty, serial, mode, fresh) in [
-        (3, 5, Mode::Absent, Some(1)),
-        (3, 0, Mode::Open, Some(1)),
-        (3, 1, Mode::Open, Some(2)),
-        (3, 4, Mode::Freed, Some(5)),
-        (3, 2, Mode::Closed, Some(5)),
-        (2, 4294967295, Mode::Closed, None),
-        (3, 4294967294, Mode::Open, Some(4294967295)),
-        (3, 4294967294, Mode::Absent, Some(5)),
-        (4294967295, 9, Mode::Open, Some(10)),
-    ] {
-        heap.set_status(Ref { ty, serial }, mode, THREAD)?;
-        heap.write(Ref { ty, serial }, 0, Value::Int(1))?;
-        assert!(rt;
-            heap.fresh(ty).map(|r| r.serial) == fresh,
-            "after {ty}.{serial}"
-        );
-    }
-    assert!(rt; heap.fresh(4) == Some(Ref { ty: 4, serial: 1 }));
-    Ok(())
-}
-
-#[test]
-fn first_is_the_least(rt: HostRuntime) -> Result<(), Fail> {
-    let mut heap = Heap::empty(rt.alloc());
-    assert!(rt; heap.first(NULL) == None);
-    heap.set_status(C, Mode::Freed, NULL)?;
-    heap.write(A, 0, Value::Int(1))?;
-    heap.set_owned(B, A, true)?;
-    heap.set_owned(B, A, false)?;
-    for (from, first) in [
-        (NULL, Some(A)),
-        (A, Some(A)),
-        (B, Some(C)),
-        (C, Some(C)),
-        (Ref { ty: 4, serial: 2 }, None),
-    ] {
-        assert!(rt;
-            heap.first(from) == first,
-            "from {}.{}",
-            from.ty,
-            from.serial
-        );
-    }
-    Ok(())
-}
-
-#[test]
-fn content_is_all_but_the_status(rt: HostRuntime) -> Result<(), Fail> {
-    let mut heap = Heap::empty(rt.alloc());
-    heap.set_count(A, 1)?;
-    heap.write(A, 0, Value::Int(1))?;
-    heap.set_owned(A, B, true)?;
-    heap.set_listed(A, B, true)?;
-    heap.set_shape(A, 0, &[Value::Int(1)], true)?;
-    for changed in 0..6 {
-        let mut other = heap.copy()?;
-        assert!(rt; other.same_content(&heap, A));
-        match changed {
-            0 => other.set_count(A, 2)?,
-            1 => other.write(A, 1, Value::Int(1))?,
-            2 => other.set_owned(A, B, false)?,
-            3 => other.set_listed(A, C, true)?,
-            4 => other.set_shape(A, 0, &[Value::Int(2)], true)?,
-            _ => other.set_status(A, Mode::Freed, C)?,
+/// Whether the heap shows what the row says; a change is made.
+fn holds(h: &mut Heap, row: &Row<'_>) -> Result<bool, AllocError> {
+    match row {
+        Row::Do(change) => {
+            apply(h, *change)?;
+            Ok(true)
         }
-        assert!(rt;
-            other.same_content(&heap, A) == (changed == 5),
-            "after change {changed}"
-        );
-        assert!(rt; heap.same_content(&other, B));
+        Row::Read(o, field, zero, seen) => {
+            Ok(zero.is_zero() && h.read(*o, *field, *zero) == *seen)
+        }
+        Row::View(o, mode, owner, count) => {
+            let seen = RecordView {
+                mode: *mode,
+                owner: *owner,
+                count: *count,
+            };
+            Ok(h.view(*o) == seen)
+        }
+        Row::Owned(o, all) => Ok(h.owned(*o) == *all),
+        Row::Listed(c, all) => Ok(h.listed(*c) == *all),
+        Row::Conjuncts(c, count) => Ok(h.shapes(*c).len() == *count),
+        Row::Entry(c, place, shape, values) => Ok(has_entry(h, *c, *place, *shape, *values)),
+        Row::Fresh(fresh) => Ok(h.fresh(fresh.ty) == Some(*fresh)),
+        Row::Full(ty) => Ok(h.fresh(*ty) == None),
+        Row::First(from, first) => Ok(h.first(*from) == Some(*first)),
+        Row::Last(from) => Ok(h.first(*from) == None),
+        Row::Same(change, is_same) => is_same_after(h, *change, *is_same),
+    }
+}
+
+/// The tables, each about a heap that is empty at first.
+const TABLES: &[(&str, &[Row<'static>])] = &[
+    ("reads", READS),
+    ("views", VIEWS),
+    ("sets in order", SETS),
+    ("conjuncts in order", CONJUNCTS),
+    ("fresh is above all used", FRESH),
+    ("the first is the least", FIRSTS),
+    ("the content is all but the status", CONTENTS),
+];
+
+#[test]
+fn heaps_show_what_was_set(rt: HostRuntime) -> Result<(), Fail> {
+    for (name, rows) in TABLES {
+        let mut h = Heap::empty(rt.alloc());
+        for (place, row) in rows.iter().enumerate() {
+            assert!(rt; holds(&mut h, row)?, "{name}: row {place}");
+        }
     }
     Ok(())
 }

@@ -3,12 +3,18 @@
 #![tactic(auto)]
 
 #[cfg(test)]
+mod changes;
+#[cfg(test)]
 mod evaluation;
 #[cfg(test)]
 mod heaps;
 #[cfg(test)]
 mod holding;
 #[cfg(test)]
+mod notation;
+#[cfg(test)]
 mod owning;
+#[cfg(test)]
+mod programs;
 #[cfg(test)]
 mod touching;

@@ -1,6 +1,10 @@
 //! Stable sets, who may write what, and effects on whole heaps, worked by hand.
 
-use method::program::{Program, StructInfo};
+use crate::notation::Unread;
+use crate::programs::{StructRow, program};
+use Effect::{Close, Give, Open as Opened, Take};
+use Mode::{Absent, Closed, Freed, Open};
+use method::program::Program;
 use object_types::heap::Heap;
 use object_types::records::{Mode, RecordView};
 use object_types::references::{NULL, Ref};
@@ -14,6 +18,8 @@ use std::test::Fail;
 const T: Ref = Ref { ty: 1, serial: 1 };
 
 const U: Ref = Ref { ty: 1, serial: 2 };
+
+const WORKER: Ref = Ref { ty: 1, serial: 3 };
 
 const CLAIM: Ref = Ref { ty: 2, serial: 1 };
 
@@ -34,52 +40,35 @@ const LOCK: Ref = Ref { ty: 4, serial: 1 };
 /// A type that the program lacks.
 const STRANGER: Ref = Ref { ty: 9, serial: 1 };
 
-const EVERY: [Ref; 11] = [NULL, T, U, CLAIM, SECOND, THIRD, A, B, C, LOCK, STRANGER];
+/// The last references of all.
+const LAST_BUT_ONE: Ref = Ref {
+    ty: 4294967295,
+    serial: 4294967294,
+};
 
-/// What stands at a reference.
-#[derive(Clone, Copy)]
-struct Row<'a> {
-    o: Ref,
-    mode: Mode,
-    owner: Ref,
-    owned: &'a [Ref],
-    listed: &'a [Ref],
-}
+const LAST: Ref = Ref {
+    ty: 4294967295,
+    serial: 4294967295,
+};
 
-/// The row of an object that is no claim.
-fn object<'a>(o: Ref, mode: Mode, owner: Ref, owned: &'a [Ref]) -> Row<'a> {
-    Row {
-        o,
-        mode,
-        owner,
-        owned,
-        listed: &[],
+const EVERY: &[Ref] = &[NULL, T, U, CLAIM, SECOND, THIRD, A, B, C, LOCK, STRANGER];
+
+/// What stands at a reference: its mode, its owner, what it owns, and what it lists as a claim.
+type Row<'a> = (Ref, Mode, Ref, &'a [Ref], &'a [Ref]);
+
+fn add_row(h: &mut Heap, row: &Row<'_>) -> Result<(), AllocError> {
+    let (o, mode, owner, owned, listed) = *row;
+    h.set_status(o, mode, owner)?;
+    for member in owned {
+        h.set_owned(o, *member, true)?;
     }
-}
-
-/// The row of a claim.
-fn claim<'a>(o: Ref, mode: Mode, owner: Ref, listed: &'a [Ref]) -> Row<'a> {
-    Row {
-        o,
-        mode,
-        owner,
-        owned: &[],
-        listed,
-    }
-}
-
-fn add_row(h: &mut Heap, row: &Row) -> Result<(), AllocError> {
-    h.set_status(row.o, row.mode, row.owner)?;
-    for member in row.owned {
-        h.set_owned(row.o, *member, true)?;
-    }
-    for object in row.listed {
-        h.set_listed(row.o, *object, true)?;
+    for object in listed {
+        h.set_listed(o, *object, true)?;
     }
     Ok(())
 }
 
-fn heap_of(alloc: Global, rows: &[Row]) -> Result<Heap, AllocError> {
+fn heap_of(alloc: Global, rows: &[Row<'_>]) -> Result<Heap, AllocError> {
     let mut h = Heap::empty(alloc);
     for row in rows {
         add_row(&mut h, row)?;
@@ -87,259 +76,245 @@ fn heap_of(alloc: Global, rows: &[Row]) -> Result<Heap, AllocError> {
     Ok(h)
 }
 
-fn one_struct(alloc: Global, has_volatile_owns: bool) -> Result<StructInfo, AllocError> {
-    Ok(StructInfo {
-        name: Vec::new(alloc),
-        line: 1,
-        is_claimable: true,
-        has_dynamic_owns: true,
-        has_volatile_owns,
-        first_field: 0,
-        fields: 0,
-        invariants: Vec::new(alloc),
-        mine: Vec::new(alloc),
-    })
+/// The types 3 and 4.
+const STRUCTS: &[StructRow<'static>] = &[("", true, false, 0, &[]), ("", true, true, 0, &[])];
+
+fn the_program(alloc: Global) -> Result<Program, Unread> {
+    program(alloc, STRUCTS, &[], &[])
 }
 
-/// A program with the types 3 and 4.
-fn program(alloc: Global) -> Result<Program, AllocError> {
-    let mut structs = Vec::new(alloc);
-    structs.push(one_struct(alloc, false)?)?;
-    structs.push(one_struct(alloc, true)?)?;
-    Ok(Program {
-        structs,
-        fields: Vec::new(alloc),
-        functions: Vec::new(alloc),
-        sites: Vec::new(alloc),
-        shapes: Vec::new(alloc),
-        items: Vec::new(alloc),
-        main: 0,
-    })
+/// A mode and an owner of A, and whether T finds it mutable, wrapped and writable without listing it.
+type StatusRow = (Mode, Ref, bool, bool, bool);
+
+const STATUSES: &[StatusRow] = &[
+    (Absent, NULL, false, false, true),
+    (Absent, T, false, false, false),
+    (Open, NULL, false, false, true),
+    (Open, T, true, false, false),
+    (Open, U, false, false, true),
+    (Closed, NULL, false, false, true),
+    (Closed, T, false, true, false),
+    (Closed, U, false, false, true),
+    (Closed, A, false, false, true),
+    (Freed, NULL, false, false, true),
+    (Freed, T, false, false, false),
+];
+
+fn has_status(h: &mut Heap, row: &StatusRow) -> Result<bool, AllocError> {
+    let (mode, owner, is_mutable, is_wrapped, is_writable) = *row;
+    h.set_status(A, mode, owner)?;
+    h.set_count(A, 1)?;
+    Ok(
+        mutable(h, T, A) == is_mutable
+            && wrapped(h, T, A) == is_wrapped
+            && writable(h, &[], T, A) == is_writable
+            && writable(h, &[B, A], T, A),
+    )
 }
 
 #[test]
 fn status_by_mode_and_owner(rt: HostRuntime) -> Result<(), Fail> {
     let mut h = Heap::empty(rt.alloc());
-    for (mode, owner, is_mutable, is_wrapped, is_writable) in [
-        (Mode::Absent, NULL, false, false, true),
-        (Mode::Absent, T, false, false, false),
-        (Mode::Open, NULL, false, false, true),
-        (Mode::Open, T, true, false, false),
-        (Mode::Open, U, false, false, true),
-        (Mode::Closed, NULL, false, false, true),
-        (Mode::Closed, T, false, true, false),
-        (Mode::Closed, U, false, false, true),
-        (Mode::Closed, A, false, false, true),
-        (Mode::Freed, NULL, false, false, true),
-        (Mode::Freed, T, false, false, false),
-    ] {
-        h.set_status(A, mode, owner)?;
-        h.set_count(A, 1)?;
-        assert!(rt; mutable(&h, T, A) == is_mutable && wrapped(&h, T, A) == is_wrapped);
-        assert!(rt; writable(&h, &[], T, A) == is_writable && writable(&h, &[B, A], T, A));
+    for (place, row) in STATUSES.iter().enumerate() {
+        assert!(rt; has_status(&mut h, row)?, "row {place}");
     }
     Ok(())
 }
+
+const WRITTEN: &[Row<'static>] = &[
+    (A, Open, T, &[], &[]),
+    (B, Closed, U, &[], &[]),
+    (C, Closed, A, &[], &[]),
+];
+
+/// What a function may write, a thread, an object, and whether it is writable.
+const WRITABLE: &[(&[Ref], Ref, Ref, bool)] = &[
+    (&[], T, A, false),
+    (&[A], T, A, true),
+    (&[B, C], T, A, false),
+    (&[B, C, A], T, A, true),
+    (&[], T, B, true),
+    (&[], U, B, false),
+    (&[], T, C, true),
+    (&[], A, C, false),
+    (&[], T, NULL, true),
+    (&[], NULL, NULL, false),
+    (&[NULL], NULL, NULL, true),
+    (&[], T, LOCK, true),
+];
 
 #[test]
 fn writable_by_list_and_owner(rt: HostRuntime) -> Result<(), Fail> {
-    let h = heap_of(
-        rt.alloc(),
-        &[
-            object(A, Mode::Open, T, &[]),
-            object(B, Mode::Closed, U, &[]),
-            object(C, Mode::Closed, A, &[]),
-        ],
-    )?;
-    for (writes, t, o, is_writable) in [
-        ([].as_slice(), T, A, false),
-        ([A].as_slice(), T, A, true),
-        ([B, C].as_slice(), T, A, false),
-        ([B, C, A].as_slice(), T, A, true),
-        ([].as_slice(), T, B, true),
-        ([].as_slice(), U, B, false),
-        ([].as_slice(), T, C, true),
-        ([].as_slice(), A, C, false),
-        ([].as_slice(), T, NULL, true),
-        ([].as_slice(), NULL, NULL, false),
-        ([NULL].as_slice(), NULL, NULL, true),
-        ([].as_slice(), T, LOCK, true),
-    ] {
-        assert!(rt;
-            writable(&h, writes, t, o) == is_writable,
-            "{}.{}",
-            o.ty,
-            o.serial
-        );
+    let h = heap_of(rt.alloc(), WRITTEN)?;
+    for (place, (writes, t, o, is_writable)) in WRITABLE.iter().enumerate() {
+        assert!(rt; writable(&h, writes, *t, *o) == *is_writable, "row {place}");
     }
     Ok(())
 }
 
-/// Whether the stable set of t on the heap of these rows is this.
-fn is_stable(alloc: Global, rows: &[Row], t: Ref, set: &[Ref]) -> Result<bool, AllocError> {
+/// A heap, a thread, and its stable set on the heap.
+type Stable<'a> = (&'a [Row<'a>], Ref, &'a [Ref]);
+
+const ROOTS_ARE_CLOSED_AND_OWNED: &[Stable<'static>] = &[
+    (&[(A, Closed, T, &[], &[])], T, &[A]),
+    (&[(A, Closed, U, &[], &[])], T, &[]),
+    (&[(A, Closed, NULL, &[], &[])], T, &[]),
+    (&[(A, Open, T, &[], &[])], T, &[]),
+    (&[(A, Freed, T, &[], &[])], T, &[]),
+    (&[(A, Absent, T, &[], &[])], T, &[]),
+    (&[], T, &[]),
+];
+
+const CLAIMED: &[Row<'static>] = &[
+    (CLAIM, Closed, T, &[], &[LOCK]),
+    (LOCK, Closed, U, &[A], &[]),
+    (A, Closed, LOCK, &[], &[]),
+];
+
+const PLAIN: &[Row<'static>] = &[
+    (CLAIM, Closed, T, &[], &[A]),
+    (A, Closed, U, &[B], &[]),
+    (B, Closed, A, &[], &[]),
+];
+
+const OWNED_OPEN: &[Row<'static>] = &[
+    (A, Closed, T, &[SECOND], &[]),
+    (SECOND, Open, A, &[], &[B]),
+    (B, Closed, U, &[], &[]),
+];
+
+const OWNED: &[Row<'static>] = &[
+    (A, Closed, T, &[SECOND], &[]),
+    (SECOND, Closed, A, &[], &[B]),
+    (B, Closed, U, &[], &[]),
+];
+
+const NO_CLAIM: &[Row<'static>] = &[(A, Closed, T, &[], &[B])];
+
+const CLAIMS_GIVE_WHAT_THEY_LIST: &[Stable<'static>] = &[
+    (CLAIMED, T, &[CLAIM, LOCK]),
+    (CLAIMED, U, &[LOCK]),
+    (PLAIN, T, &[CLAIM, A, B]),
+    (OWNED_OPEN, T, &[SECOND, A]),
+    (OWNED, T, &[SECOND, A, B]),
+    (NO_CLAIM, T, &[A]),
+];
+
+const FREED: &[Row<'static>] = &[
+    (A, Closed, T, &[B], &[]),
+    (B, Freed, NULL, &[C], &[]),
+    (C, Open, U, &[], &[]),
+];
+
+const RING: &[Row<'static>] = &[
+    (B, Closed, T, &[C], &[]),
+    (C, Closed, B, &[A], &[]),
+    (A, Closed, C, &[B], &[]),
+];
+
+const MEMBERS_OF_ALL_BUT_LOCKS: &[Stable<'static>] = &[
+    (&[(A, Closed, T, &[C, NULL, U], &[])], T, &[NULL, U, A, C]),
+    (&[(LOCK, Closed, T, &[C, NULL, U], &[])], T, &[LOCK]),
+    (
+        &[(CLAIM, Closed, T, &[C, NULL, U], &[])],
+        T,
+        &[NULL, U, CLAIM, C],
+    ),
+    (
+        &[(STRANGER, Closed, T, &[C, NULL, U], &[])],
+        T,
+        &[NULL, U, C, STRANGER],
+    ),
+    (&[(A, Open, T, &[C, NULL, U], &[])], T, &[]),
+    (FREED, T, &[A, B, C]),
+    (RING, T, &[A, B, C]),
+    (
+        &[(LAST_BUT_ONE, Closed, T, &[A], &[])],
+        T,
+        &[A, LAST_BUT_ONE],
+    ),
+    (&[(LAST, Closed, T, &[A], &[])], T, &[A, LAST]),
+];
+
+const CHAIN: &[Row<'static>] = &[
+    (CLAIM, Closed, T, &[], &[C]),
+    (C, Closed, U, &[SECOND], &[]),
+    (SECOND, Closed, C, &[], &[B]),
+    (B, Closed, U, &[THIRD], &[]),
+    (THIRD, Closed, B, &[], &[LOCK]),
+    (LOCK, Closed, U, &[A], &[]),
+    (A, Closed, LOCK, &[], &[]),
+];
+
+/// Two threads have each released the lock, and the data is the lock's again.
+const THE_LOCKS_LAST_HEAP: &[Row<'static>] = &[
+    (CLAIM, Closed, U, &[], &[LOCK]),
+    (SECOND, Closed, WORKER, &[], &[LOCK]),
+    (A, Closed, LOCK, &[], &[]),
+    (LOCK, Closed, T, &[A], &[]),
+];
+
+const CHAINS: &[Stable<'static>] = &[
+    (CHAIN, T, &[CLAIM, SECOND, THIRD, B, C, LOCK]),
+    (CHAIN, U, &[SECOND, THIRD, B, C, LOCK]),
+    (CHAIN, LOCK, &[A]),
+    (THE_LOCKS_LAST_HEAP, T, &[LOCK]),
+    (THE_LOCKS_LAST_HEAP, U, &[CLAIM, LOCK]),
+    (THE_LOCKS_LAST_HEAP, WORKER, &[SECOND, LOCK]),
+    (THE_LOCKS_LAST_HEAP, Ref { ty: 1, serial: 4 }, &[]),
+];
+
+const STABLE: &[(&str, &[Stable<'static>])] = &[
+    ("roots are closed and owned", ROOTS_ARE_CLOSED_AND_OWNED),
+    ("claims give what they list", CLAIMS_GIVE_WHAT_THEY_LIST),
+    ("members of all but locks", MEMBERS_OF_ALL_BUT_LOCKS),
+    ("chains of claims and owners", CHAINS),
+];
+
+fn is_stable(alloc: Global, program: &Program, row: &Stable<'_>) -> Result<bool, AllocError> {
+    let (rows, t, set) = *row;
     let h = heap_of(alloc, rows)?;
-    let program = program(alloc)?;
-    let found = stable_set(alloc, &program, &h, t)?;
+    let found = stable_set(alloc, program, &h, t)?;
     Ok(found.as_slice() == set)
 }
 
 #[test]
-fn roots_are_closed_and_owned(rt: HostRuntime) -> Result<(), Fail> {
-    let alloc = rt.alloc();
-    for (mode, owner, set) in [
-        (Mode::Closed, T, [A].as_slice()),
-        (Mode::Closed, U, [].as_slice()),
-        (Mode::Closed, NULL, [].as_slice()),
-        (Mode::Open, T, [].as_slice()),
-        (Mode::Freed, T, [].as_slice()),
-        (Mode::Absent, T, [].as_slice()),
-    ] {
-        assert!(rt; is_stable(alloc, &[object(A, mode, owner, &[])], T, set)?);
-    }
-    assert!(rt; is_stable(alloc, &[], T, &[])?);
-    Ok(())
-}
-
-#[test]
-fn claims_give_what_they_list(rt: HostRuntime) -> Result<(), Fail> {
-    let alloc = rt.alloc();
-    let lock = object(LOCK, Mode::Closed, U, &[A]);
-    let member = object(A, Mode::Closed, LOCK, &[]);
-    let claimed = [claim(CLAIM, Mode::Closed, T, &[LOCK]), lock, member];
-    assert!(rt; is_stable(alloc, &claimed, T, &[CLAIM, LOCK])?);
-    assert!(rt; is_stable(alloc, &claimed, U, &[LOCK])?);
-    let plain = [
-        claim(CLAIM, Mode::Closed, T, &[A]),
-        object(A, Mode::Closed, U, &[B]),
-        object(B, Mode::Closed, A, &[]),
-    ];
-    assert!(rt; is_stable(alloc, &plain, T, &[CLAIM, A, B])?);
-    let owned_open = [
-        object(A, Mode::Closed, T, &[SECOND]),
-        claim(SECOND, Mode::Open, A, &[B]),
-        object(B, Mode::Closed, U, &[]),
-    ];
-    assert!(rt; is_stable(alloc, &owned_open, T, &[SECOND, A])?);
-    let owned = [
-        object(A, Mode::Closed, T, &[SECOND]),
-        claim(SECOND, Mode::Closed, A, &[B]),
-        object(B, Mode::Closed, U, &[]),
-    ];
-    assert!(rt; is_stable(alloc, &owned, T, &[SECOND, A, B])?);
-    let no_claim = [Row {
-        o: A,
-        mode: Mode::Closed,
-        owner: T,
-        owned: &[],
-        listed: &[B],
-    }];
-    assert!(rt; is_stable(alloc, &no_claim, T, &[A])?);
-    Ok(())
-}
-
-#[test]
-fn members_of_all_but_locks(rt: HostRuntime) -> Result<(), Fail> {
-    let alloc = rt.alloc();
-    for (o, mode, set) in [
-        (A, Mode::Closed, [NULL, U, A, C].as_slice()),
-        (LOCK, Mode::Closed, [LOCK].as_slice()),
-        (CLAIM, Mode::Closed, [NULL, U, CLAIM, C].as_slice()),
-        (STRANGER, Mode::Closed, [NULL, U, C, STRANGER].as_slice()),
-        (A, Mode::Open, [].as_slice()),
-    ] {
-        assert!(rt; is_stable(alloc, &[object(o, mode, T, &[C, NULL, U])], T, set)?);
-    }
-    let freed = [
-        object(A, Mode::Closed, T, &[B]),
-        object(B, Mode::Freed, NULL, &[C]),
-        object(C, Mode::Open, U, &[]),
-    ];
-    assert!(rt; is_stable(alloc, &freed, T, &[A, B, C])?);
-    let ring = [
-        object(B, Mode::Closed, T, &[C]),
-        object(C, Mode::Closed, B, &[A]),
-        object(A, Mode::Closed, C, &[B]),
-    ];
-    assert!(rt; is_stable(alloc, &ring, T, &[A, B, C])?);
-    Ok(())
-}
-
-#[test]
-fn chains_of_claims_and_owners(rt: HostRuntime) -> Result<(), Fail> {
-    let alloc = rt.alloc();
-    let chain = [
-        claim(CLAIM, Mode::Closed, T, &[C]),
-        object(C, Mode::Closed, U, &[SECOND]),
-        claim(SECOND, Mode::Closed, C, &[B]),
-        object(B, Mode::Closed, U, &[THIRD]),
-        claim(THIRD, Mode::Closed, B, &[LOCK]),
-        object(LOCK, Mode::Closed, U, &[A]),
-        object(A, Mode::Closed, LOCK, &[]),
-    ];
-    assert!(rt; is_stable(alloc, &chain, T, &[CLAIM, SECOND, THIRD, B, C, LOCK])?);
-    assert!(rt; is_stable(alloc, &chain, U, &[SECOND, THIRD, B, C, LOCK])?);
-    assert!(rt; is_stable(alloc, &chain, LOCK, &[A])?);
-    Ok(())
-}
-
-/// Two threads have each released the lock, and the data is the lock's again.
-#[test]
-fn the_locks_last_heap(rt: HostRuntime) -> Result<(), Fail> {
-    let alloc = rt.alloc();
-    let worker = Ref { ty: 1, serial: 3 };
-    let last = [
-        claim(CLAIM, Mode::Closed, U, &[LOCK]),
-        claim(SECOND, Mode::Closed, worker, &[LOCK]),
-        object(A, Mode::Closed, LOCK, &[]),
-        object(LOCK, Mode::Closed, T, &[A]),
-    ];
-    for (t, set) in [
-        (T, [LOCK].as_slice()),
-        (U, [CLAIM, LOCK].as_slice()),
-        (worker, [SECOND, LOCK].as_slice()),
-        (Ref { ty: 1, serial: 4 }, [].as_slice()),
-    ] {
-        assert!(rt; is_stable(alloc, &last, t, set)?, "thread {}", t.serial);
+fn stable_sets(rt: HostRuntime) -> Result<(), Fail> {
+    let program = the_program(rt.alloc())?;
+    for (name, rows) in STABLE {
+        for (place, row) in rows.iter().enumerate() {
+            assert!(rt;
+                is_stable(rt.alloc(), &program, row)?,
+                "{name}: row {place}"
+            );
+        }
     }
     Ok(())
+}
+
+/// So many objects of type 3, the first closed and t's, and each closed and owned by the one before.
+fn chain_of_owners(alloc: Global, count: u32) -> Result<Heap, AllocError> {
+    let mut h = Heap::empty(alloc);
+    let mut owner = T;
+    for serial in 1..count {
+        let o = Ref { ty: 3, serial };
+        let next = Ref {
+            ty: 3,
+            serial: serial + 1,
+        };
+        h.set_status(o, Closed, owner)?;
+        h.set_owned(o, next, true)?;
+        owner = o;
+    }
+    Ok(h)
 }
 
 #[test]
 fn a_long_chain_of_owners(rt: HostRuntime) -> Result<(), Fail> {
-    let alloc = rt.alloc();
-    let mut h = Heap::empty(alloc);
-    for serial in 1..20001u32 {
-        let o = Ref { ty: 3, serial };
-        let owner = Ref {
-            ty: 3,
-            serial: serial - 1,
-        };
-        h.set_status(o, Mode::Closed, if serial == 1 { T } else { owner })?;
-        h.set_owned(
-            o,
-            Ref {
-                ty: 3,
-                serial: serial + 1,
-            },
-            true,
-        )?;
-    }
-    let found = stable_set(alloc, &program(alloc)?, &h, T)?;
-    assert!(rt; found.len() == 20001);
-    assert!(rt; found.first() == Some(&A));
-    Ok(())
-}
-
-#[test]
-fn the_last_reference(rt: HostRuntime) -> Result<(), Fail> {
-    let alloc = rt.alloc();
-    for serial in [4294967294, 4294967295] {
-        let o = Ref {
-            ty: 4294967295,
-            serial,
-        };
-        assert!(rt; is_stable(alloc, &[object(o, Mode::Closed, T, &[A])], T, &[A, o])?);
-    }
+    let h = chain_of_owners(rt.alloc(), 20001)?;
+    let program = the_program(rt.alloc())?;
+    let found = stable_set(rt.alloc(), &program, &h, T)?;
+    assert!(rt; found.len() == 20001 && found.first() == Some(&A));
     Ok(())
 }
 
@@ -354,32 +329,27 @@ fn fill(h: &mut Heap) -> Result<(), AllocError> {
 }
 
 /// Whether the heap is at the reference as the row says, with what was filled in.
-fn is_as(h: &Heap, filled: bool, row: &Row) -> bool {
-    let count = if filled { 2 } else { 0 };
-    let seen = RecordView {
-        mode: row.mode,
-        owner: row.owner,
-        count,
-    };
-    let value = if filled { 7 } else { 0 };
-    h.view(row.o) == seen
-        && h.owned(row.o) == row.owned
-        && h.listed(row.o) == row.listed
-        && h.read(row.o, 5, Value::Int(0)) == Value::Int(value)
-        && h.shapes(row.o).len() == (if filled { 1 } else { 0 })
+fn is_as(h: &Heap, filled: bool, row: &Row<'_>) -> bool {
+    let (o, mode, owner, owned, listed) = *row;
+    let (count, value, shapes) = if filled { (2, 7, 1) } else { (0, 0, 0) };
+    h.view(o) == RecordView { mode, owner, count }
+        && h.owned(o) == owned
+        && h.listed(o) == listed
+        && h.read(o, 5, Value::Int(0)) == Value::Int(value)
+        && h.shapes(o).len() == shapes
 }
 
-/// The first reference at which the heap isn't as the rows say, where there is none the blank row.
-fn differs_at(h: &Heap, rows: &[Row]) -> Option<Ref> {
+/// Whether the heap is as the rows say at every reference, and where there is no row as the blank row.
+fn is_heap(h: &Heap, rows: &[Row<'_>]) -> bool {
     for o in EVERY {
-        let filled = o == CLAIM || o == A || o == B || o == LOCK;
-        let blank = object(o, Mode::Absent, NULL, &[]);
-        let expected = rows.iter().find(|r| r.o == o).unwrap_or(&blank);
+        let filled = *o == CLAIM || *o == A || *o == B || *o == LOCK;
+        let blank: Row<'_> = (*o, Absent, NULL, &[], &[]);
+        let expected = rows.iter().find(|row| row.0 == *o).unwrap_or(&blank);
         if !is_as(h, filled, expected) {
-            return Some(o);
+            return false;
         }
     }
-    None
+    true
 }
 
 /// An effect and its references.
@@ -400,117 +370,102 @@ fn make(h: &mut Heap, effect: Effect) -> Result<(), AllocError> {
     }
 }
 
-/// Where the heap behind the effect isn't as `after` says, or where memory was wanted, isn't as before.
-fn wrong_at(
-    alloc: Global,
-    before: &[Row],
-    effect: Effect,
-    after: &[Row],
-) -> Result<Option<Ref>, AllocError> {
+/// A heap, an effect on it, and the heap behind it.
+type EffectRow<'a> = (&'a [Row<'a>], Effect, &'a [Row<'a>]);
+
+/// Whether the heap behind the effect is as the row says, or where memory was wanted, as before.
+fn has_effect(alloc: Global, row: &EffectRow<'_>) -> Result<bool, AllocError> {
+    let (before, effect, after) = *row;
     let mut h = heap_of(alloc, before)?;
     fill(&mut h)?;
-    if make(&mut h, effect).is_ok() {
-        return Ok(differs_at(&h, after));
-    }
-    Ok(differs_at(&h, before))
+    let expected = if make(&mut h, effect).is_ok() {
+        after
+    } else {
+        before
+    };
+    Ok(is_heap(&h, expected))
 }
 
-#[test]
-fn close_and_open(rt: HostRuntime) -> Result<(), Fail> {
-    let alloc = rt.alloc();
-    let open = [
-        object(A, Mode::Open, T, &[B, C]),
-        object(B, Mode::Closed, T, &[LOCK]),
-        object(C, Mode::Closed, U, &[]),
-        object(LOCK, Mode::Closed, B, &[A]),
-        claim(CLAIM, Mode::Closed, T, &[LOCK]),
-    ];
-    let closed = [
-        object(A, Mode::Closed, T, &[B, C]),
-        object(B, Mode::Closed, A, &[LOCK]),
-        object(C, Mode::Closed, A, &[]),
-        object(LOCK, Mode::Closed, B, &[A]),
-        claim(CLAIM, Mode::Closed, T, &[LOCK]),
-    ];
-    let opened = [
-        object(A, Mode::Open, T, &[B, C]),
-        object(B, Mode::Closed, U, &[LOCK]),
-        object(C, Mode::Closed, U, &[]),
-        object(LOCK, Mode::Closed, B, &[A]),
-        claim(CLAIM, Mode::Closed, T, &[LOCK]),
-    ];
-    let its_own = [object(A, Mode::Open, T, &[A, STRANGER])];
-    let its_own_closed = [
-        object(A, Mode::Closed, A, &[A, STRANGER]),
-        object(STRANGER, Mode::Absent, A, &[]),
-    ];
-    let nobodys = [object(B, Mode::Closed, NULL, &[])];
-    let nobodys_open = [object(B, Mode::Open, NULL, &[])];
-    for (before, effect, after) in [
-        (open.as_slice(), Effect::Close(A), closed.as_slice()),
-        (closed.as_slice(), Effect::Close(A), closed.as_slice()),
-        (closed.as_slice(), Effect::Open(A, U), opened.as_slice()),
-        (
-            its_own.as_slice(),
-            Effect::Close(A),
-            its_own_closed.as_slice(),
-        ),
-        ([].as_slice(), Effect::Close(B), nobodys.as_slice()),
-        (
-            nobodys.as_slice(),
-            Effect::Open(B, T),
-            nobodys_open.as_slice(),
-        ),
-    ] {
-        assert!(rt; wrong_at(alloc, before, effect, after)? == None);
-    }
-    Ok(())
-}
+const OPEN: &[Row<'static>] = &[
+    (A, Open, T, &[B, C], &[]),
+    (B, Closed, T, &[LOCK], &[]),
+    (C, Closed, U, &[], &[]),
+    (LOCK, Closed, B, &[A], &[]),
+    (CLAIM, Closed, T, &[], &[LOCK]),
+];
+
+const CLOSED: &[Row<'static>] = &[
+    (A, Closed, T, &[B, C], &[]),
+    (B, Closed, A, &[LOCK], &[]),
+    (C, Closed, A, &[], &[]),
+    (LOCK, Closed, B, &[A], &[]),
+    (CLAIM, Closed, T, &[], &[LOCK]),
+];
+
+const OPENED: &[Row<'static>] = &[
+    (A, Open, T, &[B, C], &[]),
+    (B, Closed, U, &[LOCK], &[]),
+    (C, Closed, U, &[], &[]),
+    (LOCK, Closed, B, &[A], &[]),
+    (CLAIM, Closed, T, &[], &[LOCK]),
+];
+
+const ITS_OWN: &[Row<'static>] = &[(A, Open, T, &[A, STRANGER], &[])];
+
+const ITS_OWN_CLOSED: &[Row<'static>] = &[
+    (A, Closed, A, &[A, STRANGER], &[]),
+    (STRANGER, Absent, A, &[], &[]),
+];
+
+const NOBODYS: &[Row<'static>] = &[(B, Closed, NULL, &[], &[])];
+
+const NOBODYS_OPEN: &[Row<'static>] = &[(B, Open, NULL, &[], &[])];
+
+const APART: &[Row<'static>] = &[
+    (A, Closed, T, &[C], &[]),
+    (LOCK, Closed, U, &[B], &[]),
+    (B, Closed, LOCK, &[], &[]),
+    (CLAIM, Closed, T, &[], &[LOCK]),
+];
+
+const JOINED: &[Row<'static>] = &[
+    (A, Closed, LOCK, &[C], &[]),
+    (LOCK, Closed, U, &[A, B], &[]),
+    (B, Closed, LOCK, &[], &[]),
+    (CLAIM, Closed, T, &[], &[LOCK]),
+];
+
+const GIVEN_ITSELF: &[Row<'static>] = &[
+    (A, Closed, A, &[A, C], &[]),
+    (LOCK, Closed, U, &[B], &[]),
+    (B, Closed, LOCK, &[], &[]),
+    (CLAIM, Closed, T, &[], &[LOCK]),
+];
+
+const TAKEN_FROM_NONE: &[Row<'static>] = &[(B, Absent, U, &[], &[])];
+
+const NULL_GIVEN: &[Row<'static>] = &[(A, Absent, NULL, &[NULL], &[]), (NULL, Absent, A, &[], &[])];
+
+const EFFECTS: &[EffectRow<'static>] = &[
+    (OPEN, Close(A), CLOSED),
+    (CLOSED, Close(A), CLOSED),
+    (CLOSED, Opened(A, U), OPENED),
+    (ITS_OWN, Close(A), ITS_OWN_CLOSED),
+    (&[], Close(B), NOBODYS),
+    (NOBODYS, Opened(B, T), NOBODYS_OPEN),
+    (APART, Give(A, LOCK), JOINED),
+    (JOINED, Give(A, LOCK), JOINED),
+    (JOINED, Take(LOCK, A, T), APART),
+    (APART, Take(LOCK, A, T), APART),
+    (APART, Give(A, A), GIVEN_ITSELF),
+    (&[], Take(A, B, U), TAKEN_FROM_NONE),
+    (&[], Give(NULL, A), NULL_GIVEN),
+];
 
 #[test]
-fn give_and_take(rt: HostRuntime) -> Result<(), Fail> {
-    let alloc = rt.alloc();
-    let apart = [
-        object(A, Mode::Closed, T, &[C]),
-        object(LOCK, Mode::Closed, U, &[B]),
-        object(B, Mode::Closed, LOCK, &[]),
-        claim(CLAIM, Mode::Closed, T, &[LOCK]),
-    ];
-    let joined = [
-        object(A, Mode::Closed, LOCK, &[C]),
-        object(LOCK, Mode::Closed, U, &[A, B]),
-        object(B, Mode::Closed, LOCK, &[]),
-        claim(CLAIM, Mode::Closed, T, &[LOCK]),
-    ];
-    let its_own = [
-        object(A, Mode::Closed, A, &[A, C]),
-        object(LOCK, Mode::Closed, U, &[B]),
-        object(B, Mode::Closed, LOCK, &[]),
-        claim(CLAIM, Mode::Closed, T, &[LOCK]),
-    ];
-    let taken_from_none = [object(B, Mode::Absent, U, &[])];
-    let null_given = [
-        object(A, Mode::Absent, NULL, &[NULL]),
-        object(NULL, Mode::Absent, A, &[]),
-    ];
-    for (before, effect, after) in [
-        (apart.as_slice(), Effect::Give(A, LOCK), joined.as_slice()),
-        (joined.as_slice(), Effect::Give(A, LOCK), joined.as_slice()),
-        (
-            joined.as_slice(),
-            Effect::Take(LOCK, A, T),
-            apart.as_slice(),
-        ),
-        (apart.as_slice(), Effect::Take(LOCK, A, T), apart.as_slice()),
-        (apart.as_slice(), Effect::Give(A, A), its_own.as_slice()),
-        (
-            [].as_slice(),
-            Effect::Take(A, B, U),
-            taken_from_none.as_slice(),
-        ),
-        ([].as_slice(), Effect::Give(NULL, A), null_given.as_slice()),
-    ] {
-        assert!(rt; wrong_at(alloc, before, effect, after)? == None);
+fn effects_on_heaps(rt: HostRuntime) -> Result<(), Fail> {
+    for (place, row) in EFFECTS.iter().enumerate() {
+        assert!(rt; has_effect(rt.alloc(), row)?, "row {place}");
     }
     Ok(())
 }

@@ -1,6 +1,12 @@
 //! Which objects a step touches, worked by hand.
 
+use crate::changes::{Change, apply, heap_of};
+use Change::{Conjunct, Count, List, Own, Status, Write};
+use Mode::{Closed, Freed, Open};
+use Value::Int;
+use int_ranges::ctype::CType;
 use invariants::touched::touched;
+use method::program::{DeclaredType, FieldInfo, Program};
 use object_types::heap::Heap;
 use object_types::records::Mode;
 use object_types::references::{NULL, Ref};
@@ -25,93 +31,105 @@ const LAST: Ref = Ref {
     serial: 4294967295,
 };
 
-const EVERY: [Ref; 8] = [NULL, T, CLAIM, A, B, C, LOCK, LAST];
+const EVERY: &[Ref] = &[NULL, T, CLAIM, A, B, C, LOCK, LAST];
+
+/// The field that is approved.
+const APPROVED: u32 = 7;
+
+/// A program of fields alone.
+fn program(alloc: Global) -> Result<Program, AllocError> {
+    let mut fields = Vec::new(alloc);
+    for number in 0..8 {
+        fields.push(FieldInfo {
+            name: Vec::new(alloc),
+            of: 3,
+            ty: DeclaredType::Integer(CType::LongLong),
+            is_volatile: true,
+            is_ghost: false,
+            is_approved: number == APPROVED,
+        })?;
+    }
+    Ok(Program {
+        structs: Vec::new(alloc),
+        fields,
+        functions: Vec::new(alloc),
+        sites: Vec::new(alloc),
+        shapes: Vec::new(alloc),
+        items: Vec::new(alloc),
+        main: 0,
+    })
+}
 
 /// A is closed and t's, owns B, and is claimed; C is open.
-fn first_heap(alloc: Global) -> Result<Heap, AllocError> {
-    let mut h = Heap::empty(alloc);
-    h.set_status(A, Mode::Closed, T)?;
-    h.set_count(A, 1)?;
-    h.set_owned(A, B, true)?;
-    h.write(A, 5, Value::Int(7))?;
-    h.set_status(B, Mode::Closed, A)?;
-    h.set_status(CLAIM, Mode::Closed, T)?;
-    h.set_listed(CLAIM, A, true)?;
-    h.set_shape(CLAIM, 1, &[Value::Ref(A)], true)?;
-    h.set_status(C, Mode::Open, T)?;
-    Ok(h)
-}
+const BEFORE: &[Change<'static>] = &[
+    Status(A, Closed, T),
+    Count(A, 1),
+    Own(A, B, true),
+    Write(A, 5, Int(7)),
+    Status(B, Closed, A),
+    Status(CLAIM, Closed, T),
+    List(CLAIM, A, true),
+    Conjunct(CLAIM, 1, &[Value::Ref(A)], true),
+    Status(C, Open, T),
+];
 
-/// What a step does.
-#[derive(Clone, Copy)]
-enum Step {
-    Nothing,
-    Write(Ref, u32, i128),
-    Count(Ref, i128),
-    Status(Ref, Mode, Ref),
-    Own(Ref, Ref, bool),
-    List(Ref, Ref, bool),
-    Conjunct(Ref, u32),
-    Move(Ref, Ref, i128),
-}
+/// What a step does, and what it touches.
+type Row<'a> = (&'a [Change<'a>], &'a [Ref]);
 
-fn take_step(h: &mut Heap, step: Step) -> Result<(), AllocError> {
-    match step {
-        Step::Nothing => Ok(()),
-        Step::Write(o, field, value) => h.write(o, field, Value::Int(value)),
-        Step::Count(o, count) => h.set_count(o, count),
-        Step::Status(o, mode, owner) => h.set_status(o, mode, owner),
-        Step::Own(o, member, holds) => h.set_owned(o, member, holds),
-        Step::List(c, object, holds) => h.set_listed(c, object, holds),
-        Step::Conjunct(c, shape) => h.set_shape(c, shape, &[], true),
-        Step::Move(o, owner, count) => {
-            h.set_status(o, Mode::Closed, owner)?;
-            h.set_count(o, count)?;
-            Ok(())
-        }
+const ROWS: &[Row<'static>] = &[
+    (&[], &[]),
+    (&[Write(A, 5, Int(8))], &[A]),
+    (&[Write(A, 5, Int(7))], &[]),
+    (&[Write(A, 6, Int(0))], &[]),
+    (&[Write(B, 5, Int(1))], &[B]),
+    (&[Write(B, APPROVED, Int(1))], &[A, B]),
+    (&[Write(C, APPROVED, Int(1))], &[T, C]),
+    (&[Count(B, 1)], &[A, B]),
+    (&[Count(A, 2)], &[T, A]),
+    (&[Count(LOCK, 1)], &[NULL, LOCK]),
+    (&[Status(A, Open, T)], &[A]),
+    (&[Status(C, Freed, NULL)], &[]),
+    (&[Status(C, Closed, T)], &[C]),
+    (&[Status(B, Closed, T)], &[]),
+    (&[Status(LOCK, Open, T)], &[]),
+    (&[Own(A, C, true)], &[A]),
+    (&[Own(A, B, false)], &[A]),
+    (&[Own(A, B, true)], &[]),
+    (&[List(CLAIM, B, true)], &[CLAIM]),
+    (&[Conjunct(CLAIM, 2, &[], true)], &[CLAIM]),
+    (&[Status(B, Closed, LOCK), Count(B, 1)], &[A, B, LOCK]),
+    (&[Status(B, Closed, LOCK), Count(B, 0)], &[]),
+    (&[Status(LAST, Closed, A), Count(LAST, 1)], &[NULL, A, LAST]),
+];
+
+/// Whether the step touches these of the references and no others, in both directions.
+fn touches(
+    program: &Program,
+    before: &Heap,
+    step: &[Change<'_>],
+    objects: &[Ref],
+) -> Result<bool, AllocError> {
+    let mut after = before.copy()?;
+    for change in step {
+        apply(&mut after, *change)?;
     }
-}
-
-/// The first of the references at which the answer isn't that the step touches these.
-fn wrong_at(before: &Heap, after: &Heap, objects: &[Ref]) -> Option<Ref> {
     for o in EVERY {
-        let expected = objects.contains(&o);
-        if touched(o, before, after) != expected || touched(o, after, before) != expected {
-            return Some(o);
+        let expected = objects.contains(o);
+        if touched(program, *o, before, &after) != expected
+            || touched(program, *o, &after, before) != expected
+        {
+            return Ok(false);
         }
     }
-    None
+    Ok(true)
 }
 
 #[test]
 fn touched_by_step(rt: HostRuntime) -> Result<(), Fail> {
-    let before = first_heap(rt.alloc())?;
-    for (step, objects) in [
-        (Step::Nothing, [].as_slice()),
-        (Step::Write(A, 5, 8), [A].as_slice()),
-        (Step::Write(A, 5, 7), [].as_slice()),
-        (Step::Write(A, 6, 0), [].as_slice()),
-        (Step::Write(B, 5, 1), [B].as_slice()),
-        (Step::Count(B, 1), [A, B].as_slice()),
-        (Step::Count(A, 2), [T, A].as_slice()),
-        (Step::Count(LOCK, 1), [NULL, LOCK].as_slice()),
-        (Step::Status(A, Mode::Open, T), [A].as_slice()),
-        (Step::Status(C, Mode::Freed, NULL), [].as_slice()),
-        (Step::Status(C, Mode::Closed, T), [C].as_slice()),
-        (Step::Status(B, Mode::Closed, T), [].as_slice()),
-        (Step::Status(LOCK, Mode::Open, T), [].as_slice()),
-        (Step::Own(A, C, true), [A].as_slice()),
-        (Step::Own(A, B, false), [A].as_slice()),
-        (Step::Own(A, B, true), [].as_slice()),
-        (Step::List(CLAIM, B, true), [CLAIM].as_slice()),
-        (Step::Conjunct(CLAIM, 2), [CLAIM].as_slice()),
-        (Step::Move(B, LOCK, 1), [A, B, LOCK].as_slice()),
-        (Step::Move(B, LOCK, 0), [].as_slice()),
-        (Step::Move(LAST, A, 1), [NULL, A, LAST].as_slice()),
-    ] {
-        let mut after = before.copy()?;
-        take_step(&mut after, step)?;
-        assert!(rt; wrong_at(&before, &after, objects) == None);
+    let program = program(rt.alloc())?;
+    let before = heap_of(rt.alloc(), BEFORE)?;
+    for (place, (step, objects)) in ROWS.iter().enumerate() {
+        assert!(rt; touches(&program, &before, step, objects)?, "row {place}");
     }
     Ok(())
 }

@@ -1,3 +1,4 @@
 pub mod Scanning
 pub mod Touching
 pub mod Entries
+pub mod Approving

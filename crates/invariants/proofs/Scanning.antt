@@ -29,8 +29,8 @@ pub none_last : (test : Ref → Bool) (ss : List Stored) (from o : Ref) → None
 none_last test ss from o none fails kept first last q there = covered test ss from o q none fails (last_covers ss from o kept first last q there) there
 
 pub none_end : (test : Ref → Bool) (ss : List Stored) (from : Ref) → NoneBefore test ss from → ((q : Ref) → ref_lt q from ≡ false → look_up ss q ≡ nothing) → (q : Ref) → look_up ss q ≢ nothing → test q ≡ false
-none_end test ss from none behind q there = by_test (ref_lt q from) refl
+none_end test ss from none following q there = by_test (ref_lt q from) refl
   where
     by_test : (b : Bool) → ref_lt q from ≡ b → test q ≡ false
     by_test true e = none q e there
-    by_test false e = absurd (there (behind q e))
+    by_test false e = absurd (there (following q e))

@@ -3,7 +3,7 @@ use Rattle.std.specs.Prelude.{◌≡◌, List, IsTrue, IsFalse, ◌≢◌}
 use Rattle.object_types.specs.declared.references.Ref.{Ref}
 use Rattle.method.specs.declared.program.Program.{Program}
 use Rattle.object_types.specs.Heap.{Heap, mutable, wrapped, writable}
-use Rattle.method.specs.WellFormed.{IsFixed}
+use Rattle.method.specs.WellFormed.{IsHeapOf, KeepsApproved, IsFixed}
 use Rattle.method.specs.Legal.{Good}
 use Rattle.method.specs.StableSet.{InStableSet, InFrameSet}
 
@@ -12,15 +12,17 @@ pub record Rely (p : Program) (t : Ref) (h k : Heap) : Type 0 where
   pub before : Good p h
   pub after : Good p k
   pub own_open : (o : Ref) → IsTrue (mutable t h o) → k.get o ≡ h.get o
-  pub own_closed : (o : Ref) → IsTrue (wrapped t h o) → IsTrue (wrapped t k o) × ((k.get o).count ≡ (h.get o).count)
+  pub own_closed : (o : Ref) → IsTrue (wrapped t h o) → IsTrue (wrapped t k o) × ((k.get o).count ≡ (h.get o).count) × KeepsApproved p (h.get o) (k.get o)
   pub stable : (o : Ref) → InStableSet p t h o → IsFixed p o h k × InStableSet p t k o
   pub foreign : (o : Ref) → (h.get o).owner ≢ t → (k.get o).owner ≢ t
 
 -- What all threads together may do to it, where t writes only w and what it did not own in e.
 pub record Frame (p : Program) (t : Ref) (h k e : Heap) (w : List Ref) : Type 0 where
+  pub before : IsHeapOf p h
+  pub entry : IsHeapOf p e
   pub after : Good p k
   pub own_open : (o : Ref) → IsTrue (mutable t h o) → IsFalse (writable t e w o) → k.get o ≡ h.get o
-  pub own_closed : (o : Ref) → IsTrue (wrapped t h o) → IsFalse (writable t e w o) → IsTrue (wrapped t k o) × ((k.get o).count ≡ (h.get o).count)
+  pub own_closed : (o : Ref) → IsTrue (wrapped t h o) → IsFalse (writable t e w o) → IsTrue (wrapped t k o) × ((k.get o).count ≡ (h.get o).count) × KeepsApproved p (h.get o) (k.get o)
   pub stable : (o : Ref) → InFrameSet p t h e w o → IsFixed p o h k × InFrameSet p t k e w o
 
 -- what others may do in turn, they may do at once

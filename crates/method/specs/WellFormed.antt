@@ -18,7 +18,7 @@ use Rattle.object_types.specs.Values.{referent, kept}
 use Rattle.object_types.specs.Sets.{is_in, is_ordered, every, all_distinct, set_of}
 use Rattle.object_types.specs.Shapes.{entry_lt, entries_of}
 use Rattle.object_types.specs.Heap.{Heap, Record, nothing, empty_heap, closed_in, IsClosedIn}
-use Rattle.method.specs.Tables.{local, in_type, type_of_field, type_of_variable, read, is_volatile, is_field_of, has_volatile_owns, is_claimable}
+use Rattle.method.specs.Tables.{local, in_type, type_of_field, type_of_variable, read, is_volatile, is_approved, is_field_of, has_volatile_owns, is_claimable, sort_of_type}
 use Rattle.method.specs.SpecValue.{Scene, entry_of}
 
 -- every reference in the value is one
@@ -26,6 +26,7 @@ abbrev pub is_value : Value → Bool
 is_value (Int z) = true
 is_value (Refers r) = is_reference r
 
+-- the value is an integer, or a reference
 abbrev pub has_sort : Sort → Value → Bool
 has_sort IntSort (Int z) = true
 has_sort IntSort (Refers r) = false
@@ -42,7 +43,7 @@ abbrev pub is_entry : Option Shape → List Value → Bool
 is_entry None vs = false
 is_entry (Some sh) vs = have_sorts sh.holes.items vs
 
--- A heap of the program: finitely many records, its sets in order, at each reference only what belongs to its type, and of the type number 0 NULL alone.
+-- A heap of the program: finitely many records, its sets in order, at each reference only what belongs to its type, in each field an integer or a reference as its type says, and of the type number 0 NULL alone.
 pub record IsHeapOf (p : Program) (h : Heap) : Type 0 where
   pub finite : (o : Ref) → IsFalse (is_in o h.support) → h.get o ≡ nothing
   pub owned_ordered : (o : Ref) → IsTrue (is_ordered ref_lt (h.get o).owned)
@@ -55,7 +56,7 @@ pub record IsHeapOf (p : Program) (h : Heap) : Type 0 where
   pub owners : (o : Ref) → IsTrue (is_reference (h.get o).owner)
   pub owned_are : (o : Ref) → IsTrue (every is_reference (h.get o).owned)
   pub listed_are : (o : Ref) → IsTrue (every is_reference (h.get o).listed)
-  pub values_are : (o : Ref) (f : ℕ) (v : Value) → (h.get o).fields f ≡ Some v → IsTrue (is_value v)
+  pub values_are : (o : Ref) (f : ℕ) (v : Value) → (h.get o).fields f ≡ Some v → IsTrue (has_sort (sort_of_type (type_of_field p f)) v)
   pub claims_list : (o : Ref) → IsFalse (is_claim o) → ((h.get o).listed ≡ []) × ((h.get o).shapes ≡ [])
 
 -- exactly n references pass
@@ -127,6 +128,10 @@ pub record WellFormed (p : Program) (h : Heap) : Type 0 where
   pub listed : (c o : Ref) → IsTrue (claims_now h o c) → IsClosedIn h o × IsTrue (is_claimable p o.ty)
   pub made : (c : Ref) → IsTrue (is_claim c) → IsClosedIn h c → IsMade p (h.get c)
 
+-- The approved fields of a record are the same in another: what an owner may count on.
+pub record KeepsApproved (p : Program) (r s : Record) : Type 0 where
+  pub fields : (f : ℕ) → IsTrue (is_approved p f) → s.fields f ≡ r.fields f
+
 -- The non-volatile content of o is the same: fields without volatile, the owned set of a type without volatile_owns, all of a claim.
 pub record IsFixed (p : Program) (o : Ref) (h k : Heap) : Type 0 where
   pub fields : (f : ℕ) → IsFalse (is_volatile p f) → (k.get o).fields f ≡ (h.get o).fields f
@@ -134,7 +139,8 @@ pub record IsFixed (p : Program) (o : Ref) (h k : Heap) : Type 0 where
   pub listed : (k.get o).listed ≡ (h.get o).listed
   pub shapes : (k.get o).shapes ≡ (h.get o).shapes
 
--- What holds of each step: a well-formed heap afterwards, and what stays closed keeps its non-volatile content.
+-- What holds of each step: a heap of the program before, a well-formed one afterwards, and what stays closed keeps its non-volatile content.
 pub record WellFormedStep (p : Program) (h0 h1 : Heap) : Type 0 where
+  pub before : IsHeapOf p h0
   pub after : WellFormed p h1
   pub fixed : (o : Ref) → IsClosedIn h0 o → IsClosedIn h1 o → IsFixed p o h0 h1

@@ -142,6 +142,16 @@ impl Heap {
         }
     }
 
+    /// The value that is kept of the object's field; none of 0 and NULL.
+    pub fn field(&self, o: Ref, field: u32) -> Option<Value>
+        ensures { result ≡ (look_up self.now o).fields field }
+    {
+        match self.get(o) {
+            Some(stored) => stored.fields.get(field),
+            None => None,
+        }
+    }
+
     /// The value of the object's field; `zero` is the zero of its type.
     pub fn read(&self, o: Ref, field: u32, zero: Value) -> Value
         requires { IsTrue (is_zero zero) }
@@ -300,7 +310,7 @@ impl Heap {
     }
 
     /// The fields that are kept of the object, in the order of their numbers.
-    fn kept(&self, o: Ref) -> &[Kept]
+    pub fn kept(&self, o: Ref) -> &[Kept]
         ensures fields { (f : ℕ) → (look_up self.now o).fields f ≡ field_in result.now f }
         ensures ordered { IsTrue (is_ordered kept_lt result.now) }
     {

@@ -1,9 +1,10 @@
 //! Annotations at the front of texts.
 
-use crate::answers::Answer::{self, Behind, TooDeep, Unexpected, UnknownForm};
-use crate::answers::{answer_of, is};
-use piece_reader::Place::{Argument, Contract, Ghost, Loop, Member, Parameter, Statement, Struct};
-use piece_reader::{Place, is_annotation, read_annotation};
+use crate::answers::Answer::{self, Following, TooDeep, Unexpected, UnknownForm};
+use crate::answers::{answers, end_of};
+use annot_syntax::Place::{Argument, Contract, Ghost, Loop, Member, Parameter, Statement, Struct};
+use annot_syntax::{Place, is_annotation, read_annotation};
+use c_source::fault::SourceFault;
 use std::alloc::Global;
 use std::process::Abort;
 use std::test::*;
@@ -14,45 +15,76 @@ type Row = (&'static str, Place, Answer);
 
 /// Each form in its places.
 const ACCEPTED: &[Row] = &[
-    ("_(claimable) struct", Struct, Behind(3)),
-    ("_(claimable) _(dynamic_owns)", Struct, Behind(3)),
-    ("_(claimable, dynamic_owns)", Struct, Behind(5)),
-    ("_(volatile_owns, claimable)", Struct, Behind(5)),
-    ("_(invariant a == b) }", Member, Behind(6)),
-    ("_(ghost int x)", Member, Behind(5)),
-    ("_(ghost volatile \\claim c;)", Member, Behind(7)),
-    ("_(ghost struct T *p)", Member, Behind(7)),
-    ("_(ghost \\claim c), x", Parameter, Behind(5)),
-    ("_(ghost struct T *p))", Parameter, Behind(7)),
-    ("_(requires a > 0) {", Contract, Behind(6)),
-    ("_(ensures \\result == 1)", Contract, Behind(6)),
-    ("_(maintains a)", Contract, Behind(4)),
-    ("_(writes p, \\span(q), \\extent(r))", Contract, Behind(14)),
-    ("_(assert a ==> b) x", Statement, Behind(6)),
-    ("_(ghost x = 1;)", Statement, Behind(7)),
-    ("_(ghost { int x; x = 1; })", Statement, Behind(12)),
-    ("_(ghost _(wrap p);)", Statement, Behind(8)),
-    ("_(wrap p)", Statement, Behind(4)),
-    ("_(unwrap p)", Statement, Behind(4)),
-    ("_(unwrapping p) { }", Statement, Behind(4)),
-    ("_(atomic p, q) {", Statement, Behind(6)),
-    ("_(invariant a < b) _(invariant c)", Loop, Behind(6)),
-    ("_(assert a)", Loop, Behind(4)),
-    ("_(ghost x = 1)", Loop, Behind(6)),
-    ("_(wrap p)", Loop, Behind(4)),
-    ("_(unwrap p)", Loop, Behind(4)),
-    ("_(unwrapping p) {", Loop, Behind(4)),
-    ("_(atomic p)", Loop, Behind(4)),
-    ("_(ghost c)", Argument, Behind(4)),
-    ("_(ghost a + b) )", Argument, Behind(6)),
-    ("_(wrap p);", Ghost, Behind(4)),
-    ("_(unwrap p->q)", Ghost, Behind(6)),
+    ("_(claimable) struct", Struct, Following(3)),
+    ("_(claimable) _(dynamic_owns)", Struct, Following(3)),
+    ("_(claimable, dynamic_owns)", Struct, Following(5)),
+    ("_(volatile_owns, claimable)", Struct, Following(5)),
+    ("_(invariant a == b) }", Member, Following(6)),
+    ("_(ghost int x)", Member, Following(5)),
+    ("_(ghost volatile \\claim c;)", Member, Following(7)),
+    ("_(ghost struct T *p)", Member, Following(7)),
+    ("_(ghost \\claim c), x", Parameter, Following(5)),
+    ("_(ghost struct T *p))", Parameter, Following(7)),
+    ("_(requires a > 0) {", Contract, Following(6)),
+    ("_(ensures \\result == 1)", Contract, Following(6)),
+    ("_(maintains a)", Contract, Following(4)),
+    (
+        "_(writes p, \\span(q), \\extent(r))",
+        Contract,
+        Following(14),
+    ),
+    ("_(assert a ==> b) x", Statement, Following(6)),
+    ("_(ghost x = 1;)", Statement, Following(7)),
+    ("_(ghost { int x; x = 1; })", Statement, Following(12)),
+    ("_(ghost _(wrap p);)", Statement, Following(8)),
+    ("_(wrap p)", Statement, Following(4)),
+    ("_(unwrap p)", Statement, Following(4)),
+    ("_(unwrapping p) { }", Statement, Following(4)),
+    ("_(atomic p, q) {", Statement, Following(6)),
+    ("_(invariant a < b) _(invariant c)", Loop, Following(6)),
+    ("_(assert a)", Loop, Following(4)),
+    ("_(ghost x = 1)", Loop, Following(6)),
+    ("_(wrap p)", Loop, Following(4)),
+    ("_(unwrap p)", Loop, Following(4)),
+    ("_(unwrapping p) {", Loop, Following(4)),
+    ("_(atomic p)", Loop, Following(4)),
+    ("_(ghost c)", Argument, Following(4)),
+    ("_(ghost a + b) )", Argument, Following(6)),
+    ("_(wrap p);", Ghost, Following(4)),
+    ("_(unwrap p->q)", Ghost, Following(6)),
 ];
 
-/// Annotations from a token on.
-const LATER: &[(&str, usize, Place, Answer)] = &[
-    ("f(a _(ghost c))", 3, Argument, Behind(7)),
-    ("x = 1; _(wrap p)", 4, Statement, Behind(8)),
+/// Annotations from a token on, with so many levels around them.
+const WITHIN: &[(&str, usize, u32, Place, Answer)] = &[
+    ("f(a _(ghost c))", 3, 0, Argument, Following(7)),
+    ("x = 1; _(wrap p)", 4, 0, Statement, Following(8)),
+    ("_(claimable)", 0, 200, Struct, Following(3)),
+    ("_(foo)", 0, 200, Struct, UnknownForm(3)),
+    ("_(ghost int x)", 0, 199, Member, Following(5)),
+    ("_(ghost int x)", 0, 200, Member, TooDeep(1)),
+    ("_(invariant a)", 0, 198, Member, Following(4)),
+    ("_(invariant a)", 0, 199, Member, TooDeep(3)),
+    ("_(ghost int x)", 0, 199, Parameter, Following(5)),
+    ("_(ghost int x)", 0, 200, Parameter, TooDeep(1)),
+    ("_(requires a)", 0, 198, Contract, Following(4)),
+    ("_(requires a)", 0, 199, Contract, TooDeep(1)),
+    ("_(writes \\span(p))", 0, 197, Contract, Following(7)),
+    ("_(writes \\span(p))", 0, 198, Contract, TooDeep(10)),
+    ("_(assert a)", 0, 198, Statement, Following(4)),
+    ("_(assert a)", 0, 199, Statement, TooDeep(1)),
+    ("_(foo)", 0, 200, Statement, TooDeep(1)),
+    ("_(assert a + b)", 0, 197, Statement, Following(6)),
+    ("_(assert a + b)", 0, 198, Statement, TooDeep(12)),
+    ("_(assert (a))", 0, 198, Statement, TooDeep(10)),
+    ("_(ghost { })", 0, 198, Statement, Following(5)),
+    ("_(ghost x = 1)", 0, 197, Statement, Following(6)),
+    ("_(ghost x = 1)", 0, 198, Statement, TooDeep(9)),
+    ("_(invariant a)", 0, 198, Loop, Following(4)),
+    ("_(invariant a)", 0, 199, Loop, TooDeep(1)),
+    ("_(ghost c)", 0, 198, Argument, Following(4)),
+    ("_(ghost c)", 0, 199, Argument, TooDeep(1)),
+    ("_(wrap p)", 0, 198, Ghost, Following(4)),
+    ("_(wrap p->q)", 0, 198, Ghost, TooDeep(9)),
 ];
 
 /// Forms in wrong places, and texts that are none.
@@ -104,99 +136,44 @@ const UNKNOWN: &[Row] = &[
     ("_(foo)", Ghost, UnknownForm(3)),
 ];
 
-/// Annotations with so many levels around them.
-const HIGH: &[(&str, u32, Place, Answer)] = &[
-    ("_(claimable)", 200, Struct, Behind(3)),
-    ("_(foo)", 200, Struct, UnknownForm(3)),
-    ("_(ghost int x)", 199, Member, Behind(5)),
-    ("_(ghost int x)", 200, Member, TooDeep(1)),
-    ("_(invariant a)", 198, Member, Behind(4)),
-    ("_(invariant a)", 199, Member, TooDeep(3)),
-    ("_(ghost int x)", 199, Parameter, Behind(5)),
-    ("_(ghost int x)", 200, Parameter, TooDeep(1)),
-    ("_(requires a)", 198, Contract, Behind(4)),
-    ("_(requires a)", 199, Contract, TooDeep(1)),
-    ("_(writes \\span(p))", 197, Contract, Behind(7)),
-    ("_(writes \\span(p))", 198, Contract, TooDeep(10)),
-    ("_(assert a)", 198, Statement, Behind(4)),
-    ("_(assert a)", 199, Statement, TooDeep(1)),
-    ("_(foo)", 200, Statement, TooDeep(1)),
-    ("_(assert a + b)", 197, Statement, Behind(6)),
-    ("_(assert a + b)", 198, Statement, TooDeep(12)),
-    ("_(assert (a))", 198, Statement, TooDeep(10)),
-    ("_(ghost { })", 198, Statement, Behind(5)),
-    ("_(ghost x = 1)", 197, Statement, Behind(6)),
-    ("_(ghost x = 1)", 198, Statement, TooDeep(9)),
-    ("_(invariant a)", 198, Loop, Behind(4)),
-    ("_(invariant a)", 199, Loop, TooDeep(1)),
-    ("_(ghost c)", 198, Argument, Behind(4)),
-    ("_(ghost c)", 199, Argument, TooDeep(1)),
-    ("_(wrap p)", 198, Ghost, Behind(4)),
-    ("_(wrap p->q)", 198, Ghost, TooDeep(9)),
-];
-
-/// What is read of a text from this token on.
+/// What is read of a text from this token on; nothing where the text or the levels around it are too many.
 #[tactic(auto, using(c_source::proofs::Ends::has_end))]
-fn answered(alloc: Global, text: &str, at: usize, above: u32, place: Place) -> Answer {
+fn read(
+    alloc: Global,
+    text: &str,
+    at: usize,
+    above: u32,
+    place: Place,
+) -> Result<usize, SourceFault> {
     let bytes = text.as_bytes();
     if bytes.len() > 1000 || above > 200 {
-        return Answer::Other;
+        return Err(SourceFault::OutOfMemory);
     }
     let Ok(tokens) = tokens(alloc, bytes) else {
-        return Answer::Other;
+        return Err(SourceFault::OutOfMemory);
     };
     if at >= tokens.len() || !is_annotation(tokens.as_slice(), at) {
-        return Answer::Other;
+        return Err(SourceFault::OutOfMemory);
     }
-    answer_of(read_annotation(alloc, tokens.as_slice(), at, above, place))
+    end_of(read_annotation(alloc, tokens.as_slice(), at, above, place))
 }
 
 /// The rows of a table are answered as they say.
 fn all_answered(rt: &impl Abort, alloc: Global, rows: &[Row]) {
     for (text, place, want) in rows {
-        is(rt, answered(alloc, text, 0, 0, *place), *want, text, 0, 0);
+        let got = read(alloc, text, 0, 0, *place);
+        answers(rt, got, *want, text, 0, 0);
     }
 }
 
 #[test]
-fn accepted(rt: HostRuntime) {
-    all_answered(&rt, rt.alloc(), ACCEPTED);
-}
-
-#[test]
-fn refused(rt: HostRuntime) {
-    all_answered(&rt, rt.alloc(), REFUSED);
-}
-
-#[test]
-fn unknown(rt: HostRuntime) {
-    all_answered(&rt, rt.alloc(), UNKNOWN);
-}
-
-#[test]
-fn later(rt: HostRuntime) {
-    for (text, at, place, want) in LATER {
-        is(
-            &rt,
-            answered(rt.alloc(), text, *at, 0, *place),
-            *want,
-            text,
-            *at,
-            0,
-        );
-    }
-}
-
-#[test]
-fn high(rt: HostRuntime) {
-    for (text, above, place, want) in HIGH {
-        is(
-            &rt,
-            answered(rt.alloc(), text, 0, *above, *place),
-            *want,
-            text,
-            0,
-            *above,
-        );
+fn annotations(rt: HostRuntime) {
+    let alloc = rt.alloc();
+    all_answered(&rt, alloc, ACCEPTED);
+    all_answered(&rt, alloc, REFUSED);
+    all_answered(&rt, alloc, UNKNOWN);
+    for (text, at, above, place, want) in WITHIN {
+        let got = read(alloc, text, *at, *above, *place);
+        answers(&rt, got, *want, text, *at, *above);
     }
 }

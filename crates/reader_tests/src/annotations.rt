@@ -1,13 +1,13 @@
 //! Tables of ghost statements, over tokens written by hand. What is read is shown by its height and the number of tokens behind it, a fault by the number of tokens from it on.
 
 use crate::readings::counted;
-use crate::tables::{Reader, Row, Tokens, hold};
+use crate::tables::{List, Reader, Row, Tokens, all_hold};
 use Form::{GhostBody, GhostName, GhostStatement, Set};
-use annot_syntax::ghost_places::ghost_name;
-use annot_syntax::ghosts::{ghost_body, ghost_statement};
-use annot_syntax::sets::set;
 use c_syntax::token::TokenKind::{Keyword as Key, Name, Sign as Mark, SpecWord as Word};
 use c_syntax::token::{Keyword, Sign, SpecWord, Token};
+use reader_annotations::ghost_places::ghost_name;
+use reader_annotations::ghosts::{ghost_body, ghost_statement};
+use reader_annotations::sets::set;
 use std::alloc::{AllocError, Global};
 use std::test::*;
 
@@ -76,12 +76,10 @@ const BLOCK_ROWS: &[Row<Form>] = &[
     (GhostBody, 3, 6, "unexpected, 2 left"),
 ];
 
-#[test]
-fn owned_sets(rt: HostRuntime) -> Result<(), AllocError> {
-    hold(&rt, rt.alloc(), OWNED, OWNED_ROWS)
-}
+/// All of them.
+const LISTS: &[List<'static, Form>] = &[(OWNED, OWNED_ROWS), (BLOCK, BLOCK_ROWS)];
 
 #[test]
-fn blocks(rt: HostRuntime) -> Result<(), AllocError> {
-    hold(&rt, rt.alloc(), BLOCK, BLOCK_ROWS)
+fn ghost_statements(rt: HostRuntime) {
+    all_hold(&rt, rt.alloc(), LISTS);
 }

@@ -1,37 +1,50 @@
 //! What is read at the front of texts.
 
+use crate::rows::is;
+use Answer::{Following, TooDeep, Unexpected, UnknownForm};
 use c_source::fault::SourceFault;
 use c_syntax::token::Span;
 use std::process::Abort;
 
-/// How many tokens are read, or the fault, with its column.
-#[derive(Clone, Copy, Debug, PartialEq, Eq)]
+/// How many tokens are read, or the fault, with its column in the first line.
+#[derive(Clone, Copy)]
 pub enum Answer {
-    Behind(usize),
+    Following(usize),
     Unexpected(u32),
     UnknownForm(u32),
     TooDeep(u32),
-    Other,
 }
 
 /// The place behind what is read, or the fault.
-pub fn answer_of<T: Drop>(read: Result<(T, usize), SourceFault>) -> Answer {
+pub fn end_of<T: Drop>(read: Result<(T, usize), SourceFault>) -> Result<usize, SourceFault> {
     match read {
-        Ok((_, behind)) => Answer::Behind(behind),
-        Err(fault) => fault_answer(fault),
+        Ok((_, following)) => Ok(following),
+        Err(fault) => Err(fault),
     }
 }
 
-fn fault_answer(fault: SourceFault) -> Answer {
-    match fault {
-        SourceFault::Unexpected(Span { line: 1, column }) => Answer::Unexpected(column),
-        SourceFault::UnknownForm(Span { line: 1, column }) => Answer::UnknownForm(column),
-        SourceFault::TooDeep(Span { line: 1, column }) => Answer::TooDeep(column),
-        _ => Answer::Other,
+/// What the answer says of the reading.
+fn meaning(answer: Answer) -> Result<usize, SourceFault> {
+    match answer {
+        Following(following) => Ok(following),
+        Unexpected(column) => Err(SourceFault::Unexpected(Span { line: 1, column })),
+        UnknownForm(column) => Err(SourceFault::UnknownForm(Span { line: 1, column })),
+        TooDeep(column) => Err(SourceFault::TooDeep(Span { line: 1, column })),
     }
 }
 
-/// A row's answer is the one that it wants.
-pub fn is(rt: &impl Abort, got: Answer, want: Answer, text: &str, at: usize, above: u32) {
-    assert_eq!(rt; got, want, "for {text} from {at} on within {above}");
+/// What is read of the text from a token on, with so many levels around it, is the row's answer.
+pub fn answers(
+    rt: &impl Abort,
+    got: Result<usize, SourceFault>,
+    want: Answer,
+    text: &str,
+    at: usize,
+    above: u32,
+) {
+    is(
+        rt,
+        &(text, at, above, got),
+        &(text, at, above, meaning(want)),
+    );
 }

@@ -1,15 +1,15 @@
 //! Tables of left and right sides, over tokens written by hand. What is read is shown by its height and the number of tokens behind it, a fault by the number of tokens from it on.
 
 use crate::readings::counted;
-use crate::tables::{Reader, Row, Tokens, hold};
-use Form::{Allocation, Assigned, AssignmentBehind, CallBehind, NamePlace, Rhs};
+use crate::tables::{List, Reader, Row, Tokens, all_hold};
+use Form::{Allocation, Assigned, AssignmentTail, CallTail, NamePlace, Rhs};
 use c_syntax::token::TokenKind::{Keyword as Key, Name, Sign as Mark};
 use c_syntax::token::{Keyword, Sign, Token};
-use sides::allocations::allocation;
-use sides::assignments::{assigned, assignment_behind};
-use sides::calls::call_behind;
-use sides::places::name_place;
-use sides::rights::rhs;
+use reader_assignments::allocations::allocation;
+use reader_assignments::assignments::{assigned, assignment_tail};
+use reader_assignments::calls::call_tail;
+use reader_assignments::places::name_place;
+use reader_assignments::rights::rhs;
 use std::alloc::{AllocError, Global};
 use std::test::*;
 
@@ -18,8 +18,8 @@ use std::test::*;
 enum Form {
     Allocation,
     Assigned,
-    AssignmentBehind,
-    CallBehind,
+    AssignmentTail,
+    CallTail,
     NamePlace,
     Rhs,
 }
@@ -37,8 +37,8 @@ impl Reader for Form {
         match self {
             Allocation => counted(alloc, allocation(alloc, room, tokens)),
             Assigned => counted(alloc, assigned(alloc, room, tokens)),
-            AssignmentBehind => counted(alloc, assignment_behind(alloc, room, tokens)),
-            CallBehind => counted(alloc, call_behind(alloc, room, tokens)),
+            AssignmentTail => counted(alloc, assignment_tail(alloc, room, tokens)),
+            CallTail => counted(alloc, call_tail(alloc, room, tokens)),
             NamePlace => counted(alloc, name_place(alloc, room, tokens)),
             Rhs => counted(alloc, rhs(alloc, room, tokens)),
         }
@@ -96,25 +96,21 @@ const CAST_ROWS: &[Row<Form>] = &[
 const STEP_ROWS: &[Row<Form>] = &[
     (Assigned, 2, 0, "2 high, 1 left"),
     (Assigned, 1, 0, "too deep, 3 left"),
-    (AssignmentBehind, 0, 1, "0 high, 1 left"),
-    (AssignmentBehind, 0, 2, "unexpected, 1 left"),
+    (AssignmentTail, 0, 1, "0 high, 1 left"),
+    (AssignmentTail, 0, 2, "unexpected, 1 left"),
 ];
 
-const CALL_ROWS: &[Row<Form>] = &[(CallBehind, 0, 0, "0 high, 1 left")];
+const CALL_ROWS: &[Row<Form>] = &[(CallTail, 0, 0, "0 high, 1 left")];
+
+/// All of them.
+const LISTS: &[List<'static, Form>] = &[
+    (ARROWS, ARROWS_ROWS),
+    (CAST, CAST_ROWS),
+    (STEP, STEP_ROWS),
+    (CALL, CALL_ROWS),
+];
 
 #[test]
-fn names_with_arrows(rt: HostRuntime) -> Result<(), AllocError> {
-    hold(&rt, rt.alloc(), ARROWS, ARROWS_ROWS)
-}
-
-#[test]
-fn mallocs(rt: HostRuntime) -> Result<(), AllocError> {
-    hold(&rt, rt.alloc(), CAST, CAST_ROWS)
-}
-
-#[test]
-fn steps_and_calls(rt: HostRuntime) -> Result<(), AllocError> {
-    let alloc = rt.alloc();
-    hold(&rt, alloc, STEP, STEP_ROWS)?;
-    hold(&rt, alloc, CALL, CALL_ROWS)
+fn sides_and_calls(rt: HostRuntime) {
+    all_hold(&rt, rt.alloc(), LISTS);
 }

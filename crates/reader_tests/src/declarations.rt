@@ -1,265 +1,247 @@
 //! What a program declares: names, fields and attributes, and variables that hide each other.
 
+use crate::rows::is;
 use c_syntax::expressions::{Identifier, ValueType};
 use c_syntax::items::{FieldDeclaration, Function, Item, Member, Struct};
 use c_syntax::token::Span;
 use c_syntax::tree::Attribute;
-use declared_names::declarations::{Declarations, StructEntry};
-use declared_names::seen::Seen;
-use declared_names::variables::{Variable, Variables};
-use std::alloc::{AllocError, Global};
+use std::alloc::Global;
 use std::process::Abort;
-use std::test::*;
+use typing_symbols::declarations::Declarations;
+use typing_symbols::name_set::NameSet;
+use typing_symbols::variables::{Variable, Variables};
+
+const MEMORY: &str = "memory for names and trees";
+
+/// A name that is declared, its line, and of a struct its attributes, and its fields, which may be ghost fields.
+type Row = (
+    &'static str,
+    u32,
+    &'static [Attribute],
+    Option<&'static [(&'static str, bool)]>,
+);
+
+/// Two structs and two functions of one name, a struct and a function of one name.
+const PROGRAM: &[Row] = &[
+    (
+        "node",
+        1,
+        &[Attribute::Claimable, Attribute::VolatileOwns],
+        Some(&[("x", false), ("x", true), ("y", true)]),
+    ),
+    ("node", 2, &[], None),
+    ("node", 3, &[], Some(&[("z", false)])),
+    ("main", 4, &[], None),
+    ("main", 5, &[], None),
+];
+
+/// Names, and the lines of the struct and of the function that they name.
+const NAMES: &[(&str, Option<u32>, Option<u32>)] = &[
+    ("node", Some(1), Some(2)),
+    ("main", None, Some(4)),
+    ("nod", None, None),
+    ("", None, None),
+];
+
+/// Structs, names, and whether a field of the name is a ghost field.
+const FIELDS: &[(usize, &str, Option<bool>)] = &[
+    (0, "x", Some(false)),
+    (0, "y", Some(true)),
+    (0, "z", None),
+    (1, "x", None),
+    (1, "y", None),
+    (1, "z", Some(false)),
+];
+
+/// Structs, and whether they are claimable, and have dynamic and volatile owned sets.
+const ATTRIBUTES: &[(usize, bool, bool, bool)] = &[
+    (0, true, false, true),
+    (1, false, false, false),
+];
+
+/// How many variables are kept, and the lines of those of the names `a`, `b` and `c`.
+const SCOPES: &[(usize, Option<u32>, Option<u32>, Option<u32>)] = &[
+    (5, Some(2), Some(1), Some(2)),
+    (4, Some(2), Some(1), Some(2)),
+    (3, Some(1), Some(1), Some(2)),
+    (1, Some(1), None, None),
+    (0, None, None, None),
+];
+
+/// Names, and whether they were noted before.
+const NOTES: &[(&str, bool)] = &[
+    ("a", false),
+    ("ab", false),
+    ("a", true),
+    ("", false),
+    ("ab", true),
+    ("", true),
+    ("b", false),
+];
 
 fn place(line: u32) -> Span {
     Span { line, column: 1 }
 }
 
-fn name(alloc: Global, line: u32, text: &str) -> Result<Identifier, AllocError> {
-    Ok(Identifier {
+fn name(rt: &impl Abort, alloc: Global, line: u32, text: &str) -> Identifier {
+    Identifier {
         span: place(line),
-        name: text.as_bytes().to_vec(alloc)?,
-    })
+        name: text.as_bytes().to_vec(alloc).expect(rt, MEMORY),
+    }
 }
 
-// Names on one line.
-fn names(alloc: Global, line: u32, texts: &[&str]) -> Result<Vec<Identifier>, AllocError> {
+/// Names on one line.
+fn names(rt: &impl Abort, alloc: Global, line: u32, texts: &[&str]) -> Vec<Identifier> {
     let mut all = Vec::new(alloc);
     for text in texts {
-        let one = name(alloc, line, *text)?;
-        all.push(one)?;
+        all.push(name(rt, alloc, line, text)).expect(rt, MEMORY);
     }
-    Ok(all)
+    all
 }
 
-// Fields with their names, and whether they are ghost fields.
-fn members_of(
-    alloc: Global,
-    line: u32,
-    fields: &[(&str, bool)],
-) -> Result<Vec<Member>, AllocError> {
+/// Fields with their names, and whether they are ghost fields.
+fn members_of(rt: &impl Abort, alloc: Global, line: u32, fields: &[(&str, bool)]) -> Vec<Member> {
     let mut members = Vec::new(alloc);
     for (text, is_ghost) in fields {
-        let name = name(alloc, line, *text)?;
-        members.push(Member::Field(FieldDeclaration {
+        let field = FieldDeclaration {
             is_ghost: *is_ghost,
             is_volatile: false,
             ty: ValueType::Object,
+            name: name(rt, alloc, line, text),
+        };
+        members.push(Member::Field(field)).expect(rt, MEMORY);
+    }
+    members
+}
+
+/// A struct, where there are fields, and a function.
+fn item(rt: &impl Abort, alloc: Global, row: &Row) -> Item {
+    let (text, line, attributes, fields) = *row;
+    let name = name(rt, alloc, line, text);
+    match fields {
+        Some(fields) => Item::Struct(Struct {
+            attributes: attributes.to_vec(alloc).expect(rt, MEMORY),
+            span: place(line),
             name,
-        }))?;
+            members: members_of(rt, alloc, line, fields),
+        }),
+        None => Item::Function(Function {
+            span: place(line),
+            result: None,
+            name,
+            parameters: Vec::new(alloc),
+            ghost_parameters: Vec::new(alloc),
+            contract: Vec::new(alloc),
+            start: place(line),
+            body: Vec::new(alloc),
+            end: place(line),
+        }),
     }
-    Ok(members)
 }
 
-fn struct_of(
-    alloc: Global,
-    line: u32,
-    attributes: &[Attribute],
-    text: &str,
-    fields: &[(&str, bool)],
-) -> Result<Item, AllocError> {
-    let attributes = attributes.to_vec(alloc)?;
-    let name = name(alloc, line, text)?;
-    let members = members_of(alloc, line, fields)?;
-    Ok(Item::Struct(Struct {
-        attributes,
-        span: place(line),
-        name,
-        members,
-    }))
-}
-
-fn function_of(alloc: Global, line: u32, text: &str) -> Result<Item, AllocError> {
-    Ok(Item::Function(Function {
-        span: place(line),
-        result: None,
-        name: name(alloc, line, text)?,
-        parameters: Vec::new(alloc),
-        ghost_parameters: Vec::new(alloc),
-        contract: Vec::new(alloc),
-        start: place(line),
-        body: Vec::new(alloc),
-        end: place(line),
-    }))
-}
-
-// Adds an item: a struct, if fields are given.
-fn add(
-    items: &mut Vec<Item>,
-    line: u32,
-    text: &str,
-    attributes: &[Attribute],
-    fields: Option<&[(&str, bool)]>,
-) -> Result<(), AllocError> {
-    let alloc = *items.allocator();
-    let item = match fields {
-        Some(fields) => struct_of(alloc, line, attributes, text, fields)?,
-        None => function_of(alloc, line, text)?,
-    };
-    items.push(item)?;
-    Ok(())
-}
-
-// Two structs and two functions of one name, a struct and a function of one name.
-fn program(items: &mut Vec<Item>) -> Result<(), AllocError> {
-    let attributes = [Attribute::Claimable, Attribute::VolatileOwns];
-    let fields = [("x", false), ("x", true), ("y", true)];
-    add(items, 1, "node", &attributes, Some(&fields))?;
-    add(items, 2, "node", &[], None)?;
-    add(items, 3, "node", &[], Some(&[("z", false)]))?;
-    add(items, 4, "main", &[], None)?;
-    add(items, 5, "main", &[], None)
-}
-
-// The lines of the structs with these names.
-fn structs_called(
-    alloc: Global,
-    found: &Declarations,
-    asked: &[Identifier],
-) -> Result<Vec<Option<u32>>, AllocError> {
-    let mut all = Vec::new(alloc);
-    for one in asked {
-        all.push(found.find_struct(one).map(|s| s.tree.span.line))?;
+fn check_names(rt: &impl Abort, alloc: Global, declarations: &Declarations) {
+    for row in NAMES {
+        let asked = name(rt, alloc, 9, row.0);
+        let struct_line = declarations.find_struct(&asked).map(|s| s.tree.span.line);
+        let function_line = declarations.find_function(&asked).map(|f| f.span.line);
+        is(rt, &(row.0, struct_line, function_line), row);
     }
-    Ok(all)
+    is(rt, &declarations.structs().len(), &2);
+    is(rt, &declarations.functions().len(), &3);
 }
 
-// The lines of the functions with these names.
-fn functions_called(
-    alloc: Global,
-    found: &Declarations,
-    asked: &[Identifier],
-) -> Result<Vec<Option<u32>>, AllocError> {
-    let mut all = Vec::new(alloc);
-    for one in asked {
-        all.push(found.find_function(one).map(|f| f.span.line))?;
+fn check_fields(rt: &impl Abort, alloc: Global, declarations: &Declarations) {
+    for row in FIELDS {
+        let (at, text, _) = *row;
+        let Some(entry) = declarations.structs().get(at) else {
+            panic!(rt; "no struct {at}");
+        };
+        let asked = name(rt, alloc, 9, text);
+        let is_ghost = entry.find_field(&asked).map(|f| f.is_ghost);
+        is(rt, &(at, text, is_ghost), row);
     }
-    Ok(all)
 }
 
-// Which of a struct's fields with these names are ghost fields.
-fn ghosts_called(
-    alloc: Global,
-    entry: &StructEntry,
-    asked: &[Identifier],
-) -> Result<Vec<Option<bool>>, AllocError> {
-    let mut all = Vec::new(alloc);
-    for one in asked {
-        all.push(entry.find_field(one).map(|f| f.is_ghost))?;
-    }
-    Ok(all)
-}
-
-// The lines of the variables with these names.
-fn variables_called(
-    alloc: Global,
-    known: &Variables,
-    asked: &[Identifier],
-) -> Result<Vec<Option<u32>>, AllocError> {
-    let mut all = Vec::new(alloc);
-    for one in asked {
-        all.push(known.find(one).map(|v| v.name.span.line))?;
-    }
-    Ok(all)
-}
-
-fn check_names(rt: &impl Abort, alloc: Global, found: &Declarations) -> Result<(), AllocError> {
-    let asked = names(alloc, 9, &["node", "main", "nod", ""])?;
-    let structs = structs_called(alloc, found, &asked)?;
-    assert_eq!(rt; structs.as_slice(), [Some(1), None, None, None].as_slice());
-    let functions = functions_called(alloc, found, &asked)?;
-    assert_eq!(rt;
-        functions.as_slice(),
-        [Some(2), Some(4), None, None].as_slice()
-    );
-    assert_eq!(rt; found.structs().len(), 2);
-    assert_eq!(rt; found.functions().len(), 3);
-    Ok(())
-}
-
-fn check_fields(rt: &impl Abort, alloc: Global, found: &Declarations) -> Result<(), AllocError> {
-    let asked = names(alloc, 9, &["x", "y", "z"])?;
-    let wanted = [[Some(false), Some(true), None], [None, None, Some(false)]];
-    for (entry, wanted) in found.structs().iter().zip(wanted) {
-        let ghosts = ghosts_called(alloc, entry, &asked)?;
-        assert_eq!(rt; ghosts.as_slice(), wanted.as_slice());
-    }
-    Ok(())
-}
-
-fn check_attributes(rt: &impl Abort, found: &Declarations) {
-    let wanted = [[true, false, true], [false, false, false]];
-    for (entry, wanted) in found.structs().iter().zip(wanted) {
-        assert_eq!(rt; entry.is_claimable(), wanted[0]);
-        assert_eq!(rt; entry.has_dynamic_owns(), wanted[1]);
-        assert_eq!(rt; entry.has_volatile_owns(), wanted[2]);
+fn check_attributes(rt: &impl Abort, declarations: &Declarations) {
+    for row in ATTRIBUTES {
+        let Some(entry) = declarations.structs().get(row.0) else {
+            panic!(rt; "no struct {}", row.0);
+        };
+        let got = (
+            row.0,
+            entry.is_claimable(),
+            entry.has_dynamic_owns(),
+            entry.has_volatile_owns(),
+        );
+        is(rt, &got, row);
     }
 }
 
 #[test]
-fn finds_what_is_declared(rt: HostRuntime) -> Result<(), AllocError> {
+fn finds_what_is_declared(rt: HostRuntime) {
     let alloc = rt.alloc();
     let mut items = Vec::new(alloc);
-    program(&mut items)?;
-    let found = Declarations::of(alloc, &items)?;
-    check_names(&rt, alloc, &found)?;
-    check_fields(&rt, alloc, &found)?;
-    check_attributes(&rt, &found);
-    Ok(())
+    for row in PROGRAM {
+        items.push(item(&rt, alloc, row)).expect(&rt, MEMORY);
+    }
+    let declarations = Declarations::of(alloc, &items).expect(&rt, MEMORY);
+    check_names(&rt, alloc, &declarations);
+    check_fields(&rt, alloc, &declarations);
+    check_attributes(&rt, &declarations);
 }
 
 fn push_all<'a>(
+    rt: &impl Abort,
     known: &mut Variables<'a>,
     names: &'a [Identifier],
     ty: &'a ValueType,
-) -> Result<(), AllocError> {
-    for one in names {
-        known.push(Variable {
-            name: one,
+) {
+    for name in names {
+        let variable = Variable {
+            name,
             ty,
             is_ghost: false,
-        })?;
+        };
+        known.push(variable).expect(rt, MEMORY);
     }
-    Ok(())
+}
+
+/// The line of the variable of this name.
+fn line_of(rt: &impl Abort, alloc: Global, known: &Variables, text: &str) -> Option<u32> {
+    let asked = name(rt, alloc, 9, text);
+    known.find(&asked).map(|v| v.name.span.line)
 }
 
 #[test]
-fn hides_and_forgets(rt: HostRuntime) -> Result<(), AllocError> {
+fn hides_and_forgets(rt: HostRuntime) {
     let alloc = rt.alloc();
     let ty = ValueType::Claim;
-    let outer = names(alloc, 1, &["a", "b"])?;
-    let inner = names(alloc, 2, &["c", "a", "a"])?;
+    let outer = names(&rt, alloc, 1, &["a", "b"]);
+    let inner = names(&rt, alloc, 2, &["c", "a", "a"]);
     let mut known = Variables::new(alloc);
-    push_all(&mut known, &outer, &ty)?;
-    push_all(&mut known, &inner, &ty)?;
-    let asked = names(alloc, 9, &["a", "b", "c"])?;
-    let cases = [
-        (5usize, [Some(2), Some(1), Some(2)]),
-        (4, [Some(2), Some(1), Some(2)]),
-        (3, [Some(1), Some(1), Some(2)]),
-        (1, [Some(1), None, None]),
-        (0, [None, None, None]),
-    ];
-    for (count, wanted) in cases {
-        if count <= known.count() {
-            known.keep(count);
+    push_all(&rt, &mut known, &outer, &ty);
+    push_all(&rt, &mut known, &inner, &ty);
+    for row in SCOPES {
+        if row.0 <= known.count() {
+            known.keep(row.0);
         }
-        assert_eq!(rt; known.count(), count);
-        let found = variables_called(alloc, &known, &asked)?;
-        assert_eq!(rt; found.as_slice(), wanted.as_slice());
+        let a = line_of(&rt, alloc, &known, "a");
+        let b = line_of(&rt, alloc, &known, "b");
+        let c = line_of(&rt, alloc, &known, "c");
+        is(&rt, &(known.count(), a, b, c), row);
     }
-    Ok(())
 }
 
 #[test]
-fn notes_names(rt: HostRuntime) -> Result<(), AllocError> {
+fn notes_names(rt: HostRuntime) {
     let alloc = rt.alloc();
-    let all = names(alloc, 9, &["a", "ab", "a", "", "ab", "", "b"])?;
-    let wanted = [false, false, true, false, true, true, false];
-    let mut seen = Seen::new(alloc);
-    for (one, stood) in all.iter().zip(wanted) {
-        let told = seen.note(one)?;
-        assert_eq!(rt; told, stood);
+    let mut all = Vec::new(alloc);
+    for row in NOTES {
+        all.push(name(&rt, alloc, 9, row.0)).expect(&rt, MEMORY);
     }
-    Ok(())
+    let mut name_set = NameSet::new(alloc);
+    for (one, row) in all.iter().zip(NOTES) {
+        let before = name_set.note(one).expect(&rt, MEMORY);
+        is(&rt, &(row.0, before), row);
+    }
 }

@@ -1,9 +1,10 @@
 //! Trees built by hand, with their heights worked out from the text.
 
-ghost use Rattle.std.specs.Prelude.{◌≡◌, ◌+◌, ◌<◌, ◌≤◌, IfOk, map};
+ghost use Rattle.std.specs.Prelude.{◌≡◌, ◌+◌, ◌<◌, ◌∷◌, [], map};
 ghost use Rattle.c_syntax.specs.Views as view;
 ghost use Rattle.tree_heights.specs.Parts as p;
 
+use crate::rows::is;
 use c_syntax::expressions::{
     Assignment, Call, Change, Compared, Expr, Identifier, InterlockedCall, Right, ValueType,
 };
@@ -13,12 +14,32 @@ use c_syntax::statements::{Invariant, Stmt};
 use c_syntax::token::Span;
 use c_syntax::tree::{BinaryOperator, Condition, Interlocked, Quantifier, SpecFunction};
 use int_ranges::ctype::CType;
-use std::alloc::{AllocError, Global};
-use std::test::Fail;
+use std::alloc::Global;
+use std::process::Abort;
 use tree_heights::items::height;
 use tree_heights::laws::height_laws;
 
 const AT: Span = Span { line: 1, column: 1 };
+
+/// The value in a box.
+fn in_box<T: Drop>(rt: &impl Abort, alloc: Global, x: T) -> Box<T>
+    ensures { result.value ≡ x }
+{
+    let Ok(place) = Box::new(alloc, x) else {
+        panic!(rt; "no memory for a box");
+    };
+    place
+}
+
+/// One value as a list.
+fn single<T: Drop>(rt: &impl Abort, alloc: Global, x: T) -> Vec<T>
+    ensures { result.items ≡ x ∷ [] }
+{
+    let Ok(list) = Vec::from_array(alloc, [x]) else {
+        panic!(rt; "no memory for a list");
+    };
+    list
+}
 
 fn id(alloc: Global) -> Identifier {
     Identifier {
@@ -42,75 +63,75 @@ fn number() -> Expr
 }
 
 /// `(x)`
-fn group(alloc: Global, x: Expr) -> Result<Expr, AllocError>
-    ensures { IfOk result (λ r. p.expression (view.exp r) ≡ 1 + p.expression (view.exp x)) }
+fn group(rt: &impl Abort, alloc: Global, x: Expr) -> Expr
+    ensures { p.expression (view.exp result) ≡ 1 + p.expression (view.exp x) }
 {
-    let x = Box::new(alloc, x)?;
-    Ok(Expr::Group(AT, x))
+    let x = in_box(rt, alloc, x);
+    Expr::Group(AT, x)
 }
 
 /// `x->a`
-fn field(alloc: Global, x: Expr) -> Result<Expr, AllocError>
-    ensures { IfOk result (λ r. p.expression (view.exp r) ≡ 2 + p.expression (view.exp x)) }
+fn field(rt: &impl Abort, alloc: Global, x: Expr) -> Expr
+    ensures { p.expression (view.exp result) ≡ 2 + p.expression (view.exp x) }
 {
-    let x = Box::new(alloc, x)?;
-    Ok(Expr::Field(AT, x, id(alloc)))
+    let x = in_box(rt, alloc, x);
+    Expr::Field(AT, x, id(alloc))
 }
 
 /// `x + y`
-fn sum(alloc: Global, x: Expr, y: Expr) -> Result<Expr, AllocError>
-    ensures { IfOk result (λ r. p.expression (view.exp r) ≡ 1 + (p.expression (view.exp x) + p.expression (view.exp y))) }
+fn sum(rt: &impl Abort, alloc: Global, x: Expr, y: Expr) -> Expr
+    ensures { p.expression (view.exp result) ≡ 1 + (p.expression (view.exp x) + p.expression (view.exp y)) }
 {
-    let x = Box::new(alloc, x)?;
-    let y = Box::new(alloc, y)?;
-    Ok(Expr::Binary(AT, BinaryOperator::Plus, x, y))
+    let x = in_box(rt, alloc, x);
+    let y = in_box(rt, alloc, y);
+    Expr::Binary(AT, BinaryOperator::Plus, x, y)
 }
 
 /// `x ? y : z`
-fn choice(alloc: Global, x: Expr, y: Expr, z: Expr) -> Result<Expr, AllocError>
-    ensures { IfOk result (λ r. p.expression (view.exp r) ≡ 1 + (p.expression (view.exp x) + (p.expression (view.exp y) + p.expression (view.exp z)))) }
+fn choice(rt: &impl Abort, alloc: Global, x: Expr, y: Expr, z: Expr) -> Expr
+    ensures { p.expression (view.exp result) ≡ 1 + (p.expression (view.exp x) + (p.expression (view.exp y) + p.expression (view.exp z))) }
 {
-    let x = Box::new(alloc, x)?;
-    let y = Box::new(alloc, y)?;
-    let z = Box::new(alloc, z)?;
-    Ok(Expr::Conditional(AT, x, y, z))
+    let x = in_box(rt, alloc, x);
+    let y = in_box(rt, alloc, y);
+    let z = in_box(rt, alloc, z);
+    Expr::Conditional(AT, x, y, z)
 }
 
 /// `\old(x)`
-fn old(alloc: Global, x: Expr) -> Result<Expr, AllocError>
-    ensures { IfOk result (λ r. p.expression (view.exp r) ≡ 1 + p.expression (view.exp x)) }
+fn old(rt: &impl Abort, alloc: Global, x: Expr) -> Expr
+    ensures { p.expression (view.exp result) ≡ 1 + p.expression (view.exp x) }
 {
-    let x = Box::new(alloc, x)?;
-    Ok(Expr::Apply(AT, SpecFunction::Old, x))
+    let x = in_box(rt, alloc, x);
+    Expr::Apply(AT, SpecFunction::Old, x)
 }
 
 /// `\forall \object a; x`
-fn forall(alloc: Global, x: Expr) -> Result<Expr, AllocError>
-    ensures { IfOk result (λ r. p.expression (view.exp r) ≡ 3 + p.expression (view.exp x)) }
+fn forall(rt: &impl Abort, alloc: Global, x: Expr) -> Expr
+    ensures { p.expression (view.exp result) ≡ 3 + p.expression (view.exp x) }
 {
-    let x = Box::new(alloc, x)?;
-    Ok(Expr::Quantified(AT, Quantifier::ForAll, ValueType::Object, id(alloc), x))
+    let x = in_box(rt, alloc, x);
+    Expr::Quantified(AT, Quantifier::ForAll, ValueType::Object, id(alloc), x)
 }
 
 /// one expression as a list
-fn list(alloc: Global, x: Expr) -> Result<Vec<Expr>, AllocError>
-    ensures { IfOk result (λ xs. p.all p.expression (view.exps xs.items) ≡ 1 + p.expression (view.exp x)) }
+fn list(rt: &impl Abort, alloc: Global, x: Expr) -> Vec<Expr>
+    ensures { p.all p.expression (view.exps result.items) ≡ 1 + p.expression (view.exp x) }
 {
-    Ok(vec![in alloc; x]?)
+    single(rt, alloc, x)
 }
 
 /// one statement as a list
-fn lines(alloc: Global, x: Stmt) -> Result<Vec<Stmt>, AllocError>
-    ensures { IfOk result (λ xs. p.statements (view.stms xs.items) ≡ 1 + p.statement (view.stm x)) }
+fn lines(rt: &impl Abort, alloc: Global, x: Stmt) -> Vec<Stmt>
+    ensures { p.statements (view.stms result.items) ≡ 1 + p.statement (view.stm x) }
 {
-    Ok(vec![in alloc; x]?)
+    single(rt, alloc, x)
 }
 
 /// `void a() clauses { x }`
-fn source(alloc: Global, contract: Vec<Clause>, x: Stmt) -> Result<Tree, AllocError>
-    ensures { IfOk result (λ t. p.parts (view.items_of t) ≡ 6 + (p.all p.clause (map view.clause contract.items) + p.statement (view.stm x))) }
+fn source(rt: &impl Abort, alloc: Global, contract: Vec<Clause>, x: Stmt) -> Tree
+    ensures { p.parts (view.items_of result) ≡ 6 + (p.all p.clause (map view.clause contract.items) + p.statement (view.stm x)) }
 {
-    let body = lines(alloc, x)?;
+    let body = lines(rt, alloc, x);
     let item = Item::Function(Function {
         span: AT,
         result: None,
@@ -122,81 +143,81 @@ fn source(alloc: Global, contract: Vec<Clause>, x: Stmt) -> Result<Tree, AllocEr
         body,
         end: AT,
     });
-    Ok(Tree {
-        items: vec![in alloc; item]?,
+    Tree {
+        items: single(rt, alloc, item),
         end: AT,
-    })
+    }
 }
 
 /// `void a() { x }`
-fn around(alloc: Global, x: Stmt) -> Result<Tree, AllocError>
-    ensures { IfOk result (λ t. p.parts (view.items_of t) ≡ 6 + p.statement (view.stm x)) }
+fn around(rt: &impl Abort, alloc: Global, x: Stmt) -> Tree
+    ensures { p.parts (view.items_of result) ≡ 6 + p.statement (view.stm x) }
 {
-    source(alloc, Vec::new(alloc), x)
+    source(rt, alloc, Vec::new(alloc), x)
 }
 
 /// `void a() { _(assert 1 + ((a))) }`
-fn brackets(alloc: Global) -> Result<Tree, AllocError>
-    ensures { IfOk result (λ t. p.parts (view.items_of t) < 1000) }
+fn brackets(rt: &impl Abort, alloc: Global) -> Tree
+    ensures { p.parts (view.items_of result) < 1000 }
 {
-    let inner = group(alloc, name(alloc))?;
-    let inner = group(alloc, inner)?;
-    let whole = sum(alloc, number(), inner)?;
-    around(alloc, Stmt::Assert(AT, whole))
+    let inner = group(rt, alloc, name(alloc));
+    let inner = group(rt, alloc, inner);
+    let whole = sum(rt, alloc, number(), inner);
+    around(rt, alloc, Stmt::Assert(AT, whole))
 }
 
 /// `void a() { _(assert a->a ? 1 : a) }`
-fn choices(alloc: Global) -> Result<Tree, AllocError>
-    ensures { IfOk result (λ t. p.parts (view.items_of t) < 1000) }
+fn choices(rt: &impl Abort, alloc: Global) -> Tree
+    ensures { p.parts (view.items_of result) < 1000 }
 {
-    let test = field(alloc, name(alloc))?;
-    let whole = choice(alloc, test, number(), name(alloc))?;
-    around(alloc, Stmt::Assert(AT, whole))
+    let test = field(rt, alloc, name(alloc));
+    let whole = choice(rt, alloc, test, number(), name(alloc));
+    around(rt, alloc, Stmt::Assert(AT, whole))
 }
 
 /// `void a() { _(assert \forall \object a; \old(a)) }`
-fn quantifier(alloc: Global) -> Result<Tree, AllocError>
-    ensures { IfOk result (λ t. p.parts (view.items_of t) < 1000) }
+fn quantifier(rt: &impl Abort, alloc: Global) -> Tree
+    ensures { p.parts (view.items_of result) < 1000 }
 {
-    let body = old(alloc, name(alloc))?;
-    let whole = forall(alloc, body)?;
-    around(alloc, Stmt::Assert(AT, whole))
+    let body = old(rt, alloc, name(alloc));
+    let whole = forall(rt, alloc, body);
+    around(rt, alloc, Stmt::Assert(AT, whole))
 }
 
 /// `void a() { a(1, _(ghost (a))); }`
-fn calls(alloc: Global) -> Result<Tree, AllocError>
-    ensures { IfOk result (λ t. p.parts (view.items_of t) < 1000) }
+fn calls(rt: &impl Abort, alloc: Global) -> Tree
+    ensures { p.parts (view.items_of result) < 1000 }
 {
-    let arguments = list(alloc, number())?;
-    let inner = group(alloc, name(alloc))?;
-    let ghost_arguments = list(alloc, inner)?;
+    let arguments = list(rt, alloc, number());
+    let inner = group(rt, alloc, name(alloc));
+    let ghost_arguments = list(rt, alloc, inner);
     let called = Call {
         function: id(alloc),
         arguments,
         ghost_arguments,
     };
-    around(alloc, Stmt::Call(AT, called))
+    around(rt, alloc, Stmt::Call(AT, called))
 }
 
 /// `void a() { a = right; }`
-fn assigned(alloc: Global, right: Right) -> Result<Tree, AllocError>
-    ensures { IfOk result (λ t. p.parts (view.items_of t) ≡ 11 + p.right (view.rhs right)) }
+fn assigned(rt: &impl Abort, alloc: Global, right: Right) -> Tree
+    ensures { p.parts (view.items_of result) ≡ 11 + p.right (view.rhs right) }
 {
     let change = Assignment {
         left: name(alloc),
         span: AT,
         change: Change::Set(right),
     };
-    around(alloc, Stmt::Assign(AT, change))
+    around(rt, alloc, Stmt::Assign(AT, change))
 }
 
 /// `void a() { a = InterlockedExchange(&a->a, 1) == (a); }`
-fn exchange(alloc: Global) -> Result<Tree, AllocError>
-    ensures { IfOk result (λ t. p.parts (view.items_of t) < 1000) }
+fn exchange(rt: &impl Abort, alloc: Global) -> Tree
+    ensures { p.parts (view.items_of result) < 1000 }
 {
-    let other = group(alloc, name(alloc))?;
-    let arguments = list(alloc, number())?;
-    let field = field(alloc, name(alloc))?;
+    let other = group(rt, alloc, name(alloc));
+    let arguments = list(rt, alloc, number());
+    let field = field(rt, alloc, name(alloc));
     let call = InterlockedCall {
         span: AT,
         function: Interlocked::Exchange,
@@ -208,76 +229,76 @@ fn exchange(alloc: Global) -> Result<Tree, AllocError>
         is_equal: true,
         other,
     };
-    assigned(alloc, Right::Interlocked(call, Some(compared)))
+    assigned(rt, alloc, Right::Interlocked(call, Some(compared)))
 }
 
 /// `void a() { a = malloc(sizeof(struct a)); }`
-fn allocation(alloc: Global) -> Result<Tree, AllocError>
-    ensures { IfOk result (λ t. p.parts (view.items_of t) < 1000) }
+fn allocation(rt: &impl Abort, alloc: Global) -> Tree
+    ensures { p.parts (view.items_of result) < 1000 }
 {
-    assigned(alloc, Right::Malloc(None, AT, id(alloc)))
+    assigned(rt, alloc, Right::Malloc(None, AT, id(alloc)))
 }
 
 /// `void a() { if (a) ; else return (1); }`
-fn branches(alloc: Global) -> Result<Tree, AllocError>
-    ensures { IfOk result (λ t. p.parts (view.items_of t) < 1000) }
+fn branches(rt: &impl Abort, alloc: Global) -> Tree
+    ensures { p.parts (view.items_of result) < 1000 }
 {
-    let value = group(alloc, number())?;
-    let first = Box::new(alloc, Stmt::Skip(AT))?;
-    let second = Box::new(alloc, Stmt::Return(AT, Some(value)))?;
-    around(alloc, Stmt::IfElse(AT, name(alloc), first, second))
+    let value = group(rt, alloc, number());
+    let first = in_box(rt, alloc, Stmt::Skip(AT));
+    let second = in_box(rt, alloc, Stmt::Return(AT, Some(value)));
+    around(rt, alloc, Stmt::IfElse(AT, name(alloc), first, second))
 }
 
 /// `void a() { while (1) _(invariant (a)) ; }`
-fn repeated(alloc: Global) -> Result<Tree, AllocError>
-    ensures { IfOk result (λ t. p.parts (view.items_of t) < 1000) }
+fn repeated(rt: &impl Abort, alloc: Global) -> Tree
+    ensures { p.parts (view.items_of result) < 1000 }
 {
-    let property = group(alloc, name(alloc))?;
-    let invariants = vec![in alloc; Invariant { span: AT, property }]?;
-    let body = Box::new(alloc, Stmt::Skip(AT))?;
-    around(alloc, Stmt::While(AT, number(), invariants, body))
+    let property = group(rt, alloc, name(alloc));
+    let invariants = single(rt, alloc, Invariant { span: AT, property });
+    let body = in_box(rt, alloc, Stmt::Skip(AT));
+    around(rt, alloc, Stmt::While(AT, number(), invariants, body))
 }
 
 /// `void a() { _(ghost a->\owns += { (a) }) }`
-fn owned(alloc: Global) -> Result<Tree, AllocError>
-    ensures { IfOk result (λ t. p.parts (view.items_of t) < 1000) }
+fn owned(rt: &impl Abort, alloc: Global) -> Tree
+    ensures { p.parts (view.items_of result) < 1000 }
 {
-    let member = group(alloc, name(alloc))?;
-    let members = list(alloc, member)?;
-    let left = Box::new(alloc, name(alloc))?;
+    let member = group(rt, alloc, name(alloc));
+    let members = list(rt, alloc, member);
+    let left = in_box(rt, alloc, name(alloc));
     let change = OwnsChange::Add(Members::Set(members));
     let inner = GhostStmt::Owns(AT, Expr::Owns(AT, left, AT), AT, change);
-    around(alloc, Stmt::Ghost(AT, inner))
+    around(rt, alloc, Stmt::Ghost(AT, inner))
 }
 
 /// `void a() _(requires ((a))) { ; }`
-fn contract(alloc: Global) -> Result<Tree, AllocError>
-    ensures { IfOk result (λ t. p.parts (view.items_of t) < 1000) }
+fn contract(rt: &impl Abort, alloc: Global) -> Tree
+    ensures { p.parts (view.items_of result) < 1000 }
 {
-    let property = group(alloc, name(alloc))?;
-    let property = group(alloc, property)?;
+    let property = group(rt, alloc, name(alloc));
+    let property = group(rt, alloc, property);
     let clause = Clause::Condition(AT, Condition::Requires, property);
-    let clauses = vec![in alloc; clause]?;
-    source(alloc, clauses, Stmt::Skip(AT))
+    let clauses = single(rt, alloc, clause);
+    source(rt, alloc, clauses, Stmt::Skip(AT))
 }
 
 /// `struct a { _(invariant (a)) };`
-fn structure(alloc: Global) -> Result<Tree, AllocError>
-    ensures { IfOk result (λ t. p.parts (view.items_of t) < 1000) }
+fn structure(rt: &impl Abort, alloc: Global) -> Tree
+    ensures { p.parts (view.items_of result) < 1000 }
 {
-    let property = group(alloc, name(alloc))?;
+    let property = group(rt, alloc, name(alloc));
     let member = Member::Invariant(Invariant { span: AT, property });
-    let members = vec![in alloc; member]?;
+    let members = single(rt, alloc, member);
     let item = Item::Struct(Struct {
         attributes: Vec::new(alloc),
         span: AT,
         name: id(alloc),
         members,
     });
-    Ok(Tree {
-        items: vec![in alloc; item]?,
+    Tree {
+        items: single(rt, alloc, item),
         end: AT,
-    })
+    }
 }
 
 /// no item
@@ -290,21 +311,27 @@ fn empty(alloc: Global) -> Tree
     }
 }
 
+/// The tree is so high.
+fn is_high(rt: &impl Abort, text: &str, tree: Tree, want: u32)
+    requires { p.parts (view.items_of tree) < 1000 }
+{
+    is(rt, &(text, height(&tree)), &(text, want));
+}
+
 #[test]
-fn heights(rt: HostRuntime) -> Result<(), Fail> {
+fn heights(rt: HostRuntime) {
     let alloc = rt.alloc();
-    assert_eq!(rt; height(&empty(alloc)), 0);
-    assert_eq!(rt; height(&brackets(alloc)?), 7);
-    assert_eq!(rt; height(&choices(alloc)?), 6);
-    assert_eq!(rt; height(&quantifier(alloc)?), 6);
-    assert_eq!(rt; height(&calls(alloc)?), 6);
-    assert_eq!(rt; height(&exchange(alloc)?), 7);
-    assert_eq!(rt; height(&allocation(alloc)?), 5);
-    assert_eq!(rt; height(&branches(alloc)?), 6);
-    assert_eq!(rt; height(&repeated(alloc)?), 6);
-    assert_eq!(rt; height(&owned(alloc)?), 6);
-    assert_eq!(rt; height(&contract(alloc)?), 5);
-    assert_eq!(rt; height(&structure(alloc)?), 4);
+    is_high(&rt, "empty", empty(alloc), 0);
+    is_high(&rt, "brackets", brackets(&rt, alloc), 7);
+    is_high(&rt, "choices", choices(&rt, alloc), 6);
+    is_high(&rt, "quantifier", quantifier(&rt, alloc), 6);
+    is_high(&rt, "calls", calls(&rt, alloc), 6);
+    is_high(&rt, "exchange", exchange(&rt, alloc), 7);
+    is_high(&rt, "allocation", allocation(&rt, alloc), 5);
+    is_high(&rt, "branches", branches(&rt, alloc), 6);
+    is_high(&rt, "repeated", repeated(&rt, alloc), 6);
+    is_high(&rt, "owned", owned(&rt, alloc), 6);
+    is_high(&rt, "contract", contract(&rt, alloc), 5);
+    is_high(&rt, "structure", structure(&rt, alloc), 4);
     height_laws();
-    Ok(())
 }

@@ -1,19 +1,20 @@
 //! Tables of contracts, parameters and structs, over tokens written by hand. What is read is shown with its height and the number of tokens behind it, a fault by the number of tokens from it on.
 
 use crate::readings::given;
-use crate::tables::{Reader, Row, Tokens, by_hand, hold};
+use crate::rows::is;
+use crate::tables::{List, Reader, Row, Tokens, all_hold, by_hand};
 use Form::{
     AttributeList, Attributes, Clause, Clauses, GhostParameters, Member, Members, Parameters,
-    StructBehind, Written, WrittenList,
+    StructTail, Written, WrittenList,
 };
 use c_syntax::token::TokenKind::{Keyword as Key, Name, Sign as Mark, SpecWord as Word};
 use c_syntax::token::{Keyword, Sign, SpecWord, Token, TokenKind};
-use item_reader::attributes::{attribute_list, attributes};
-use item_reader::clauses::{clause, clauses};
-use item_reader::members::{member, members};
-use item_reader::parameters::{ghost_parameters, parameters};
-use item_reader::structs::struct_behind;
-use item_reader::writes::{begins_property, written, written_list};
+use reader_items::attributes::{attribute_list, attributes};
+use reader_items::clauses::{clause, clauses};
+use reader_items::members::{member, members};
+use reader_items::parameters::{ghost_parameters, parameters};
+use reader_items::structs::struct_tail;
+use reader_items::writes::{begins_property, written, written_list};
 use std::alloc::{AllocError, Global};
 use std::test::*;
 
@@ -28,7 +29,7 @@ enum Form {
     Member,
     Members,
     Parameters,
-    StructBehind,
+    StructTail,
     Written,
     WrittenList,
 }
@@ -52,7 +53,7 @@ impl Reader for Form {
             Member => given(alloc, member(alloc, room, tokens)),
             Members => given(alloc, members(alloc, room, tokens)),
             Parameters => given(alloc, parameters(alloc, room, tokens)),
-            StructBehind => given(alloc, struct_behind(alloc, room, tokens)),
+            StructTail => given(alloc, struct_tail(alloc, room, tokens)),
             Written => given(alloc, written(alloc, room, tokens)),
             WrittenList => given(alloc, written_list(alloc, room, tokens)),
         }
@@ -315,77 +316,47 @@ const MEMBERS_ROWS: &[Row<Form>] = &[
         "2 high, 2 left: Int a volatile to s p ghost volatile object o ghost Int g invariant a",
     ),
     (
-        StructBehind,
+        StructTail,
         2,
         0,
         "2 high, 0 left: Int a volatile to s p ghost volatile object o ghost Int g invariant a",
     ),
 ];
 
-const NO_MEMBER_ROWS: &[Row<Form>] = &[(StructBehind, 0, 0, "0 high, 0 left:")];
+const NO_MEMBER_ROWS: &[Row<Form>] = &[(StructTail, 0, 0, "0 high, 0 left:")];
 
-const UNENDED_ROWS: &[Row<Form>] = &[(StructBehind, 0, 0, "unexpected, 0 left")];
+const UNENDED_ROWS: &[Row<Form>] = &[(StructTail, 0, 0, "unexpected, 0 left")];
 
-/// Whether a property begins with this token.
-fn begins(alloc: Global, first: TokenKind<'static>) -> Result<bool, AllocError> {
-    let list = by_hand(alloc, &[first])?;
-    Ok(begins_property(&list))
-}
+/// All of them.
+const LISTS: &[List<'static, Form>] = &[
+    (WRITTEN, WRITTEN_ROWS),
+    (OPEN_SPAN, OPEN_SPAN_ROWS),
+    (TRAILING_WRITTEN, TRAILING_WRITTEN_ROWS),
+    (CLAUSES, CLAUSES_ROWS),
+    (CUT_CLAUSE, CUT_CLAUSE_ROWS),
+    (NO_CLAUSE, NO_CLAUSE_ROWS),
+    (PARAMETERS, PARAMETERS_ROWS),
+    (NO_NAME, NO_NAME_ROWS),
+    (VOID, VOID_ROWS),
+    (TRAILING_PARAMETER, TRAILING_PARAMETER_ROWS),
+    (GHOST_PARAMETERS, GHOST_PARAMETERS_ROWS),
+    (NO_GHOST_PARAMETER, NO_GHOST_PARAMETER_ROWS),
+    (ATTRIBUTES, ATTRIBUTES_ROWS),
+    (NO_ATTRIBUTE, NO_ATTRIBUTE_ROWS),
+    (MEMBERS, MEMBERS_ROWS),
+    (NO_MEMBER, NO_MEMBER_ROWS),
+    (UNENDED, UNENDED_ROWS),
+];
 
 #[test]
-fn a_property_begins_with_an_operand_or_an_operator_in_front(
-    rt: HostRuntime,
-) -> Result<(), AllocError> {
+fn a_property_begins_with_an_operand_or_an_operator_in_front(rt: HostRuntime) {
     for (first, want) in BEGINNINGS {
-        let got = begins(rt.alloc(), *first)?;
-        assert_eq!(rt; got, *want);
+        let list = by_hand(&rt, rt.alloc(), &[*first]);
+        is(&rt, &begins_property(&list), want);
     }
-    Ok(())
 }
 
 #[test]
-fn written_items_are_objects_spans_and_extents(rt: HostRuntime) -> Result<(), AllocError> {
-    let alloc = rt.alloc();
-    hold(&rt, alloc, WRITTEN, WRITTEN_ROWS)?;
-    hold(&rt, alloc, OPEN_SPAN, OPEN_SPAN_ROWS)?;
-    hold(&rt, alloc, TRAILING_WRITTEN, TRAILING_WRITTEN_ROWS)
-}
-
-#[test]
-fn clauses_stand_one_behind_the_other(rt: HostRuntime) -> Result<(), AllocError> {
-    let alloc = rt.alloc();
-    hold(&rt, alloc, CLAUSES, CLAUSES_ROWS)?;
-    hold(&rt, alloc, CUT_CLAUSE, CUT_CLAUSE_ROWS)?;
-    hold(&rt, alloc, NO_CLAUSE, NO_CLAUSE_ROWS)
-}
-
-#[test]
-fn parameters_have_commas_between(rt: HostRuntime) -> Result<(), AllocError> {
-    let alloc = rt.alloc();
-    hold(&rt, alloc, PARAMETERS, PARAMETERS_ROWS)?;
-    hold(&rt, alloc, NO_NAME, NO_NAME_ROWS)?;
-    hold(&rt, alloc, VOID, VOID_ROWS)?;
-    hold(&rt, alloc, TRAILING_PARAMETER, TRAILING_PARAMETER_ROWS)
-}
-
-#[test]
-fn ghost_parameters_stand_in_annotations(rt: HostRuntime) -> Result<(), AllocError> {
-    let alloc = rt.alloc();
-    hold(&rt, alloc, GHOST_PARAMETERS, GHOST_PARAMETERS_ROWS)?;
-    hold(&rt, alloc, NO_GHOST_PARAMETER, NO_GHOST_PARAMETER_ROWS)
-}
-
-#[test]
-fn lists_of_attributes_become_one(rt: HostRuntime) -> Result<(), AllocError> {
-    let alloc = rt.alloc();
-    hold(&rt, alloc, ATTRIBUTES, ATTRIBUTES_ROWS)?;
-    hold(&rt, alloc, NO_ATTRIBUTE, NO_ATTRIBUTE_ROWS)
-}
-
-#[test]
-fn members_are_fields_and_invariants(rt: HostRuntime) -> Result<(), AllocError> {
-    let alloc = rt.alloc();
-    hold(&rt, alloc, MEMBERS, MEMBERS_ROWS)?;
-    hold(&rt, alloc, NO_MEMBER, NO_MEMBER_ROWS)?;
-    hold(&rt, alloc, UNENDED, UNENDED_ROWS)
+fn parts_of_items(rt: HostRuntime) {
+    all_hold(&rt, rt.alloc(), LISTS);
 }

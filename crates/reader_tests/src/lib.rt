@@ -27,6 +27,8 @@ mod printed_statements;
 #[cfg(test)]
 mod readings;
 #[cfg(test)]
+mod rows;
+#[cfg(test)]
 mod sources;
 #[cfg(test)]
 mod statements;

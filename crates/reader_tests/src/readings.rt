@@ -4,7 +4,7 @@ use crate::printed::Piece::{Place, Text};
 use crate::printed::write_pieces;
 use crate::printed_items::Printed;
 use c_syntax::token::Token;
-use expr_reader::reading::{ReadFault, Reading};
+use reader_expressions::reading::{ReadFault, Reading};
 use std::alloc::{AllocError, Global};
 use std::fmt::Write;
 

@@ -1,7 +1,7 @@
 //! Tables of whole sources.
 
 use crate::readings::listed;
-use crate::tables::{Reader, all_read, reads};
+use crate::tables::{Reader, Source, all_read, all_within};
 use c_reader::program::program;
 use c_syntax::token::Token;
 use std::alloc::{AllocError, Global};
@@ -125,53 +125,37 @@ const FAULTS: &[(&str, &str)] = &[
     ("_(claimable,) struct s { };", "unexpected 1:13"),
 ];
 
-/// The room for programs, the programs, and what is read of them.
-const HIGH: &[(u32, &str, &str)] = &[
-    (0, "void f() { }", "too deep 1:1"),
-    (1, "void f() { }", "too deep 1:1"),
-    (2, "void f() { }", "too deep 1:1"),
+/// Programs in so much room, and what is read of them.
+const HIGH: &[Source<Program>] = &[
+    (Program, 0, "void f() { }", "too deep 1:1"),
+    (Program, 1, "void f() { }", "too deep 1:1"),
+    (Program, 2, "void f() { }", "too deep 1:1"),
     (
+        Program,
         3,
         "void f() { }",
         "3 1:13; void f 1:1 () () { 1:10 0 1:12 }",
     ),
-    (4, "int f() { return a; }", "too deep 1:18"),
+    (Program, 4, "int f() { return a; }", "too deep 1:18"),
     (
+        Program,
         5,
         "int f() { return a; }",
         "5 1:22; Int f 1:1 () () { 1:9 1 1:21 }",
     ),
-    (3, "void f() _(requires a) { }", "too deep 1:10"),
-    (3, "struct s { _(invariant a) };", "too deep 1:14"),
-    (0, "5", "too deep 1:1"),
-    (1, "5", "too deep 1:1"),
-    (2, "5", "unexpected 1:1"),
+    (Program, 3, "void f() _(requires a) { }", "too deep 1:10"),
+    (Program, 3, "struct s { _(invariant a) };", "too deep 1:14"),
+    (Program, 0, "5", "too deep 1:1"),
+    (Program, 1, "5", "too deep 1:1"),
+    (Program, 2, "5", "unexpected 1:1"),
 ];
 
 #[test]
-fn structs_have_attributes_and_members(rt: HostRuntime) -> Result<(), AllocError> {
-    all_read(&rt, rt.alloc(), &Program, STRUCTS)
-}
-
-#[test]
-fn functions_have_parameters_contracts_and_bodies(rt: HostRuntime) -> Result<(), AllocError> {
-    all_read(&rt, rt.alloc(), &Program, FUNCTIONS)
-}
-
-#[test]
-fn programs_are_items_one_behind_the_other(rt: HostRuntime) -> Result<(), AllocError> {
-    all_read(&rt, rt.alloc(), &Program, PROGRAMS)
-}
-
-#[test]
-fn faults_are_where_no_program_goes_on(rt: HostRuntime) -> Result<(), AllocError> {
-    all_read(&rt, rt.alloc(), &Program, FAULTS)
-}
-
-#[test]
-fn height_is_bounded_where_it_is_passed(rt: HostRuntime) -> Result<(), AllocError> {
-    for (room, source, want) in HIGH {
-        reads(&rt, rt.alloc(), &Program, *room, source, want)?;
-    }
-    Ok(())
+fn programs(rt: HostRuntime) {
+    let alloc = rt.alloc();
+    all_read(&rt, alloc, &Program, STRUCTS);
+    all_read(&rt, alloc, &Program, FUNCTIONS);
+    all_read(&rt, alloc, &Program, PROGRAMS);
+    all_read(&rt, alloc, &Program, FAULTS);
+    all_within(&rt, alloc, HIGH);
 }

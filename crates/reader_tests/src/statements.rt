@@ -1,16 +1,16 @@
 //! Tables of sources: expressions, and statements.
 
 use crate::readings::{height, whole};
-use crate::tables::{Reader, all_read, reads};
+use crate::tables::{Reader, Source, all_read, all_within};
 use Form::{Declaration, Expression, Free, Named, Other, Return, Spawn, Statement};
 use c_syntax::token::Token;
-use expr_reader::expressions::expression;
-use expr_reader::levels::Mode::{Code, Spec};
-use expr_reader::levels::{Mode, top};
-use statement_reader::simple::{
+use reader_expressions::expressions::expression;
+use reader_expressions::levels::Mode::{Code, Spec};
+use reader_expressions::levels::{Mode, top};
+use reader_statements::simple::{
     declaration, free_statement, named, other, return_statement, spawn,
 };
-use statement_reader::statements::statement;
+use reader_statements::statements::statement;
 use std::alloc::{AllocError, Global};
 use std::test::*;
 
@@ -160,133 +160,150 @@ const SPECS: &[(&str, &str)] = &[
 ];
 
 /// What is no expression, and the fault.
-const NO_EXPRESSIONS: &[(Mode, &str, &str)] = &[
-    (Code, "", "unexpected 1:1"),
-    (Code, "a +", "unexpected 1:4"),
-    (Code, "(a", "unexpected 1:3"),
-    (Code, "()", "unexpected 1:2"),
-    (Code, "a->", "unexpected 1:4"),
-    (Code, "a->1", "unexpected 1:4"),
-    (Code, "a->\\closed", "unexpected 1:4"),
-    (Code, "a ? b", "unexpected 1:6"),
-    (Code, "= a", "unexpected 1:1"),
-    (Code, "a == = b", "unexpected 1:6"),
-    (Code, "!", "unexpected 1:2"),
-    (Code, "\\old(a)", "unexpected 1:1"),
-    (Code, "int", "unexpected 1:1"),
-    (Spec, "\\old a", "unexpected 1:6"),
-    (Spec, "\\owns", "unexpected 1:1"),
-    (Spec, "\\mine()", "unexpected 1:7"),
-    (Spec, "\\mine(a,)", "unexpected 1:9"),
-    (Spec, "\\mine(a ==> b)", "unexpected 1:9"),
-    (Spec, "\\claims(c)", "unexpected 1:10"),
-    (Spec, "a \\in b", "unexpected 1:8"),
-    (Spec, "a \\in b->c", "unexpected 1:11"),
-    (Spec, "a \\in b + c", "unexpected 1:9"),
-    (Spec, "\\forall int i", "unexpected 1:14"),
-    (Spec, "\\forall q; q", "unexpected 1:9"),
-    (Spec, "a->\\owns", "unexpected 1:4"),
+const NO_EXPRESSIONS: &[Source<Form>] = &[
+    (Expression(Code), 200, "", "unexpected 1:1"),
+    (Expression(Code), 200, "a +", "unexpected 1:4"),
+    (Expression(Code), 200, "(a", "unexpected 1:3"),
+    (Expression(Code), 200, "()", "unexpected 1:2"),
+    (Expression(Code), 200, "a->", "unexpected 1:4"),
+    (Expression(Code), 200, "a->1", "unexpected 1:4"),
+    (Expression(Code), 200, "a->\\closed", "unexpected 1:4"),
+    (Expression(Code), 200, "a ? b", "unexpected 1:6"),
+    (Expression(Code), 200, "= a", "unexpected 1:1"),
+    (Expression(Code), 200, "a == = b", "unexpected 1:6"),
+    (Expression(Code), 200, "!", "unexpected 1:2"),
+    (Expression(Code), 200, "\\old(a)", "unexpected 1:1"),
+    (Expression(Code), 200, "int", "unexpected 1:1"),
+    (Expression(Spec), 200, "\\old a", "unexpected 1:6"),
+    (Expression(Spec), 200, "\\owns", "unexpected 1:1"),
+    (Expression(Spec), 200, "\\mine()", "unexpected 1:7"),
+    (Expression(Spec), 200, "\\mine(a,)", "unexpected 1:9"),
+    (Expression(Spec), 200, "\\mine(a ==> b)", "unexpected 1:9"),
+    (Expression(Spec), 200, "\\claims(c)", "unexpected 1:10"),
+    (Expression(Spec), 200, "a \\in b", "unexpected 1:8"),
+    (Expression(Spec), 200, "a \\in b->c", "unexpected 1:11"),
+    (Expression(Spec), 200, "a \\in b + c", "unexpected 1:9"),
+    (Expression(Spec), 200, "\\forall int i", "unexpected 1:14"),
+    (Expression(Spec), 200, "\\forall q; q", "unexpected 1:9"),
+    (Expression(Spec), 200, "a->\\owns", "unexpected 1:4"),
     (
-        Spec,
+        Expression(Spec),
+        200,
         "p \\in \\forall \\object q; q->\\owns",
         "unexpected 1:29",
     ),
     (
-        Spec,
+        Expression(Spec),
+        200,
         "p \\in \\forall \\object q; q == r",
         "unexpected 1:28",
     ),
     (
-        Spec,
+        Expression(Spec),
+        200,
         "p \\in \\forall \\object q; q \\in a->\\owns",
         "unexpected 1:40",
     ),
-    (Spec, "p \\in \\forall \\object q; !q", "unexpected 1:26"),
     (
-        Spec,
+        Expression(Spec),
+        200,
+        "p \\in \\forall \\object q; !q",
+        "unexpected 1:26",
+    ),
+    (
+        Expression(Spec),
+        200,
         "p \\in \\forall \\object q; q \\in a->\\owns || r",
         "unexpected 1:41",
     ),
     (
-        Spec,
+        Expression(Spec),
+        200,
         "p \\in \\forall \\object q; \\exists \\object r; r \\in a->\\owns->\\owns",
         "unexpected 1:61",
     ),
 ];
 
-/// Expressions, the room for them, and what is read of them.
-const HIGH_EXPRESSIONS: &[(Mode, u32, &str, &str)] = &[
-    (Code, 0, "a", "too deep 1:1"),
-    (Code, 1, "a", "a 1 1:2"),
-    (Code, 1, "(a)", "too deep 1:1"),
-    (Code, 2, "(a)", "[a] 2 1:4"),
-    (Code, 2, "((a))", "too deep 1:2"),
-    (Code, 2, "a + b", "(Plus a b) 2 1:6"),
-    (Code, 2, "a + b + c", "too deep 1:7"),
-    (Code, 2, "- - a", "too deep 1:3"),
-    (Code, 2, "a->b->c", "too deep 1:5"),
-    (Code, 2, "a ? b : (c)", "too deep 1:9"),
-    (Spec, 2, "a ==> b ==> c", "too deep 1:9"),
-    (Spec, 2, "\\old(\\old(a))", "too deep 1:6"),
-    (Spec, 2, "a \\in b->\\owns", "too deep 1:3"),
-    (Spec, 3, "a \\in b->\\owns", "(In a (-> b owns)) 3 1:15"),
+/// Expressions in so much room, and what is read of them.
+const HIGH_EXPRESSIONS: &[Source<Form>] = &[
+    (Expression(Code), 0, "a", "too deep 1:1"),
+    (Expression(Code), 1, "a", "a 1 1:2"),
+    (Expression(Code), 1, "(a)", "too deep 1:1"),
+    (Expression(Code), 2, "(a)", "[a] 2 1:4"),
+    (Expression(Code), 2, "((a))", "too deep 1:2"),
+    (Expression(Code), 2, "a + b", "(Plus a b) 2 1:6"),
+    (Expression(Code), 2, "a + b + c", "too deep 1:7"),
+    (Expression(Code), 2, "- - a", "too deep 1:3"),
+    (Expression(Code), 2, "a->b->c", "too deep 1:5"),
+    (Expression(Code), 2, "a ? b : (c)", "too deep 1:9"),
+    (Expression(Spec), 2, "a ==> b ==> c", "too deep 1:9"),
+    (Expression(Spec), 2, "\\old(\\old(a))", "too deep 1:6"),
+    (Expression(Spec), 2, "a \\in b->\\owns", "too deep 1:3"),
     (
-        Spec,
+        Expression(Spec),
+        3,
+        "a \\in b->\\owns",
+        "(In a (-> b owns)) 3 1:15",
+    ),
+    (
+        Expression(Spec),
         5,
         "p \\in \\forall \\object q; q \\in a->\\owns->\\owns",
         "too deep 1:7",
     ),
     (
-        Spec,
+        Expression(Spec),
         6,
         "p \\in \\forall \\object q; q \\in a->\\owns && r \\in b->\\owns->\\owns",
         "too deep 1:41",
     ),
-    (Spec, 1, "\\true", "True 1 1:6"),
+    (Expression(Spec), 1, "\\true", "True 1 1:6"),
 ];
 
 /// The kinds of statements, the statements, and their heights.
-const SIMPLE: &[(Form, &str, &str)] = &[
-    (Declaration, "int x;", "2 1:7"),
-    (Declaration, "int x = 1;", "2 1:11"),
-    (Declaration, "long long int x;", "2 1:17"),
+const SIMPLE: &[Source<Form>] = &[
+    (Declaration, 200, "int x;", "2 1:7"),
+    (Declaration, 200, "int x = 1;", "2 1:11"),
+    (Declaration, 200, "long long int x;", "2 1:17"),
     (
         Declaration,
+        200,
         "struct T *p = malloc(sizeof(struct T));",
         "3 1:40",
     ),
     (
         Declaration,
+        200,
         "struct T *p = (struct T *) malloc(sizeof(struct T));",
         "3 1:53",
     ),
-    (Declaration, "int x = f(y);", "2 1:14"),
-    (Declaration, "int x = f(y + 1);", "3 1:18"),
-    (Declaration, "unsigned x", "unexpected 1:11"),
-    (Declaration, "int = 1;", "unexpected 1:5"),
-    (Declaration, "int x = ;", "unexpected 1:9"),
-    (Named, "x = 1;", "2 1:7"),
-    (Named, "x->f += y + 1;", "3 1:15"),
-    (Named, "x++;", "2 1:5"),
-    (Named, "f(x, y + 1);", "3 1:13"),
-    (Named, "f(x _(ghost y + 1));", "4 1:21"),
-    (Named, "f(x, _(ghost y));", "unexpected 1:6"),
-    (Named, "f();", "2 1:5"),
-    (Named, "x = InterlockedIncrement(&p->n);", "4 1:33"),
-    (Named, "x", "unexpected 1:2"),
-    (Named, "f(x", "unexpected 1:4"),
-    (Named, "f(x,);", "unexpected 1:5"),
-    (Named, "x + 1 = 2;", "unexpected 1:3"),
-    (Other, "(x)->f = 1;", "4 1:12"),
-    (Other, "5;", "unexpected 1:2"),
-    (Return, "return;", "1 1:8"),
-    (Return, "return x;", "2 1:10"),
-    (Return, "return x", "unexpected 1:9"),
-    (Spawn, "vcc_spawn(f, x);", "2 1:17"),
-    (Spawn, "vcc_spawn(f);", "2 1:14"),
-    (Spawn, "vcc_spawn();", "unexpected 1:11"),
-    (Free, "free(p);", "2 1:9"),
-    (Free, "free();", "unexpected 1:6"),
+    (Declaration, 200, "int x = f(y);", "2 1:14"),
+    (Declaration, 200, "int x = f(y + 1);", "3 1:18"),
+    (Declaration, 200, "unsigned x", "unexpected 1:11"),
+    (Declaration, 200, "int = 1;", "unexpected 1:5"),
+    (Declaration, 200, "int x = ;", "unexpected 1:9"),
+    (Named, 200, "x = 1;", "2 1:7"),
+    (Named, 200, "x->f += y + 1;", "3 1:15"),
+    (Named, 200, "x++;", "2 1:5"),
+    (Named, 200, "f(x, y + 1);", "3 1:13"),
+    (Named, 200, "f(x _(ghost y + 1));", "4 1:21"),
+    (Named, 200, "f(x, _(ghost y));", "unexpected 1:6"),
+    (Named, 200, "f();", "2 1:5"),
+    (Named, 200, "x = InterlockedIncrement(&p->n);", "4 1:33"),
+    (Named, 200, "x", "unexpected 1:2"),
+    (Named, 200, "f(x", "unexpected 1:4"),
+    (Named, 200, "f(x,);", "unexpected 1:5"),
+    (Named, 200, "x + 1 = 2;", "unexpected 1:3"),
+    (Other, 200, "(x)->f = 1;", "4 1:12"),
+    (Other, 200, "5;", "unexpected 1:2"),
+    (Return, 200, "return;", "1 1:8"),
+    (Return, 200, "return x;", "2 1:10"),
+    (Return, 200, "return x", "unexpected 1:9"),
+    (Spawn, 200, "vcc_spawn(f, x);", "2 1:17"),
+    (Spawn, 200, "vcc_spawn(f);", "2 1:14"),
+    (Spawn, 200, "vcc_spawn();", "unexpected 1:11"),
+    (Free, 200, "free(p);", "2 1:9"),
+    (Free, 200, "free();", "unexpected 1:6"),
 ];
 
 /// Statements, and what is read of them.
@@ -364,76 +381,52 @@ const NO_STATEMENTS: &[(&str, &str)] = &[
     ("_(atomic) { }", "unexpected 1:9"),
 ];
 
-/// The room for statements, the statements, and what is read of them.
-const HIGH_STATEMENTS: &[(u32, &str, &str)] = &[
-    (0, ";", "too deep 1:1"),
-    (1, ";", "; 1 1:2"),
-    (1, "{}", "{ } 1 1:3"),
-    (1, "{ ; }", "too deep 1:3"),
-    (2, "{ ; }", "{ ; } 2 1:6"),
-    (1, "x = 1;", "too deep 1:1"),
-    (2, "x = 1;", "(= x 1) 2 1:7"),
-    (2, "x = y + 1;", "too deep 1:7"),
-    (1, "if (a) ;", "too deep 1:1"),
-    (2, "if (a) ;", "(if a ;) 2 1:9"),
-    (2, "if (a) { ; }", "too deep 1:10"),
-    (2, "while (a) _(invariant b) ;", "too deep 1:11"),
-    (3, "while (a) _(invariant b) ;", "(while a [ b ] ;) 3 1:27"),
-    (2, "while (a) _(assert b)", "too deep 1:11"),
-    (1, "_(assert a)", "too deep 1:1"),
-    (2, "_(assert a)", "(assert a) 2 1:12"),
-    (2, "_(unwrapping p) { ; }", "too deep 1:19"),
-    (3, "_(unwrapping p) { ; }", "(unwrapping p ;) 3 1:22"),
+/// Statements in so much room, and what is read of them.
+const HIGH_STATEMENTS: &[Source<Form>] = &[
+    (Statement, 0, ";", "too deep 1:1"),
+    (Statement, 1, ";", "; 1 1:2"),
+    (Statement, 1, "{}", "{ } 1 1:3"),
+    (Statement, 1, "{ ; }", "too deep 1:3"),
+    (Statement, 2, "{ ; }", "{ ; } 2 1:6"),
+    (Statement, 1, "x = 1;", "too deep 1:1"),
+    (Statement, 2, "x = 1;", "(= x 1) 2 1:7"),
+    (Statement, 2, "x = y + 1;", "too deep 1:7"),
+    (Statement, 1, "if (a) ;", "too deep 1:1"),
+    (Statement, 2, "if (a) ;", "(if a ;) 2 1:9"),
+    (Statement, 2, "if (a) { ; }", "too deep 1:10"),
+    (Statement, 2, "while (a) _(invariant b) ;", "too deep 1:11"),
+    (
+        Statement,
+        3,
+        "while (a) _(invariant b) ;",
+        "(while a [ b ] ;) 3 1:27",
+    ),
+    (Statement, 2, "while (a) _(assert b)", "too deep 1:11"),
+    (Statement, 1, "_(assert a)", "too deep 1:1"),
+    (Statement, 2, "_(assert a)", "(assert a) 2 1:12"),
+    (Statement, 2, "_(unwrapping p) { ; }", "too deep 1:19"),
+    (
+        Statement,
+        3,
+        "_(unwrapping p) { ; }",
+        "(unwrapping p ;) 3 1:22",
+    ),
 ];
 
 #[test]
-fn code_groups_as_in_c(rt: HostRuntime) -> Result<(), AllocError> {
-    all_read(&rt, rt.alloc(), &Expression(Code), CODE)
+fn expressions(rt: HostRuntime) {
+    let alloc = rt.alloc();
+    all_read(&rt, alloc, &Expression(Code), CODE);
+    all_read(&rt, alloc, &Expression(Spec), SPECS);
+    all_within(&rt, alloc, NO_EXPRESSIONS);
+    all_within(&rt, alloc, HIGH_EXPRESSIONS);
 }
 
 #[test]
-fn annotations_group_as_their_levels_say(rt: HostRuntime) -> Result<(), AllocError> {
-    all_read(&rt, rt.alloc(), &Expression(Spec), SPECS)
-}
-
-#[test]
-fn faults_are_where_no_expression_goes_on(rt: HostRuntime) -> Result<(), AllocError> {
-    for (mode, source, want) in NO_EXPRESSIONS {
-        reads(&rt, rt.alloc(), &Expression(*mode), 200, source, want)?;
-    }
-    Ok(())
-}
-
-#[test]
-fn height_is_bounded_where_it_is_passed(rt: HostRuntime) -> Result<(), AllocError> {
-    for (mode, room, source, want) in HIGH_EXPRESSIONS {
-        reads(&rt, rt.alloc(), &Expression(*mode), *room, source, want)?;
-    }
-    Ok(())
-}
-
-#[test]
-fn statements_have_their_heights(rt: HostRuntime) -> Result<(), AllocError> {
-    for (form, source, want) in SIMPLE {
-        reads(&rt, rt.alloc(), form, 200, source, want)?;
-    }
-    Ok(())
-}
-
-#[test]
-fn statements_hold_statements(rt: HostRuntime) -> Result<(), AllocError> {
-    all_read(&rt, rt.alloc(), &Statement, STATEMENTS)
-}
-
-#[test]
-fn faults_are_where_no_statement_goes_on(rt: HostRuntime) -> Result<(), AllocError> {
-    all_read(&rt, rt.alloc(), &Statement, NO_STATEMENTS)
-}
-
-#[test]
-fn statements_are_no_higher_than_there_is_room(rt: HostRuntime) -> Result<(), AllocError> {
-    for (room, source, want) in HIGH_STATEMENTS {
-        reads(&rt, rt.alloc(), &Statement, *room, source, want)?;
-    }
-    Ok(())
+fn statements(rt: HostRuntime) {
+    let alloc = rt.alloc();
+    all_within(&rt, alloc, SIMPLE);
+    all_read(&rt, alloc, &Statement, STATEMENTS);
+    all_read(&rt, alloc, &Statement, NO_STATEMENTS);
+    all_within(&rt, alloc, HIGH_STATEMENTS);
 }

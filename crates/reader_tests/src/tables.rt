@@ -1,5 +1,6 @@
 //! Tables of what is read: of tokens written by hand, and of sources.
 
+use crate::rows::is;
 use c_syntax::token::{Span, Token, TokenKind};
 use std::alloc::{AllocError, Global};
 use std::process::Abort;
@@ -10,6 +11,12 @@ pub type Tokens = &'static [TokenKind<'static>];
 
 /// What is read, the room for it, the token from which on it is read, and what is told of it.
 pub type Row<R> = (R, u32, usize, &'static str);
+
+/// Tokens, with what is read of them.
+pub type List<'a, R> = (Tokens, &'a [Row<R>]);
+
+/// What is read, the room for it, the source, and what is told of it.
+pub type Source<R> = (R, u32, &'static str, &'static str);
 
 /// What reads tokens.
 pub trait Reader {
@@ -24,19 +31,21 @@ pub trait Reader {
 
 /// Tokens of these kinds.
 pub fn by_hand(
+    rt: &impl Abort,
     alloc: Global,
     kinds: &[TokenKind<'static>],
-) -> Result<Vec<Token<'static>>, AllocError> {
+) -> Vec<Token<'static>> {
     let mut list = Vec::new(alloc);
     for kind in kinds {
-        list.push(Token {
+        let token = Token {
             kind: *kind,
             span: Span { line: 1, column: 1 },
             start: 0,
             end: 0,
-        })?;
+        };
+        list.push(token).expect(rt, "memory for a token");
     }
-    Ok(list)
+    list
 }
 
 /// The tokens from this one on.
@@ -44,19 +53,21 @@ fn from<'a>(list: &'a [Token<'a>], at: usize) -> &'a [Token<'a>] {
     list.get(at..).unwrap_or(&[])
 }
 
-/// The rows tell what is read of these tokens.
-pub fn hold<R: Reader>(
-    rt: &impl Abort,
-    alloc: Global,
-    kinds: Tokens,
-    rows: &[Row<R>],
-) -> Result<(), AllocError> {
-    let list = by_hand(alloc, kinds)?;
-    for (reader, room, at, want) in rows {
-        let got = reader.tell(alloc, *room, from(&list, *at))?;
-        is(rt, &got, want, want);
+/// The rows tell what is read of their tokens.
+pub fn all_hold<'a, R: Reader>(rt: &impl Abort, alloc: Global, lists: &[List<'a, R>]) {
+    for (kinds, rows) in lists {
+        hold(rt, alloc, kinds, rows);
     }
-    Ok(())
+}
+
+/// The rows tell what is read of these tokens.
+fn hold<R: Reader>(rt: &impl Abort, alloc: Global, kinds: Tokens, rows: &[Row<R>]) {
+    let list = by_hand(rt, alloc, kinds);
+    for (reader, room, at, want) in rows {
+        let text = reader.tell(alloc, *room, from(&list, *at));
+        let got = text.expect(rt, "memory for a text");
+        is(rt, &(*room, *at, got.as_str()), &(*room, *at, *want));
+    }
 }
 
 /// What is told of a short source.
@@ -77,33 +88,28 @@ fn read<R: Reader>(
 }
 
 /// A source is read as its row says.
-pub fn reads<R: Reader>(
+fn reads<R: Reader>(
     rt: &impl Abort,
     alloc: Global,
     reader: &R,
     room: u32,
     source: &str,
     want: &str,
-) -> Result<(), AllocError> {
-    let got = read(alloc, reader, room, source)?;
-    is(rt, &got, want, source);
-    Ok(())
+) {
+    let got = read(alloc, reader, room, source).expect(rt, "memory for a text");
+    is(rt, &(source, room, got.as_str()), &(source, room, want));
 }
 
 /// All sources are read as their rows say.
-pub fn all_read<R: Reader>(
-    rt: &impl Abort,
-    alloc: Global,
-    reader: &R,
-    rows: &[(&str, &str)],
-) -> Result<(), AllocError> {
+pub fn all_read<R: Reader>(rt: &impl Abort, alloc: Global, reader: &R, rows: &[(&str, &str)]) {
     for (source, want) in rows {
-        reads(rt, alloc, reader, 200, source, want)?;
+        reads(rt, alloc, reader, 200, source, want);
     }
-    Ok(())
 }
 
-/// A row's text is the one that it wants.
-fn is(rt: &impl Abort, got: &str, want: &str, row: &str) {
-    assert_eq!(rt; got, want, "at {row}");
+/// All sources are read within their room as their rows say.
+pub fn all_within<R: Reader>(rt: &impl Abort, alloc: Global, rows: &[Source<R>]) {
+    for (reader, room, source, want) in rows {
+        reads(rt, alloc, reader, *room, source, want);
+    }
 }

@@ -2,6 +2,6 @@
 #![tactic(auto)]
 
 #[cfg(test)]
-mod tests;
+mod occurrence;
 #[cfg(test)]
-mod told;
+mod tests;

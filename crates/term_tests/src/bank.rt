@@ -4,6 +4,7 @@ ghost use Rattle.std.specs.Prelude.{◌≡◌, ◌<◌, IfOk, IsTrue, All};
 ghost use Rattle.terms.specs.Formula.{term as node};
 
 use std::alloc::{AllocError, Global};
+use std::process::Abort;
 use term_bank::bank::{Bank, BankFault};
 use terms::term::{Args, Kind, Term};
 
@@ -46,15 +47,42 @@ fn holds(bank: &Bank, id: u32, node: &Term) -> bool {
     (id as usize) < bank.len() && bank.node(id).is(node)
 }
 
+/// A term's kind, index and arguments, and its number.
+type Row<'a> = (Kind, i128, &'a [u32], u32);
+
+/// Each term gets its number.
+fn hold(
+    rt: &impl Abort,
+    bank: &mut Bank,
+    rows: &[Row<'_>],
+    alloc: Global,
+) -> Result<(), AllocError> {
+    for (kind, index, numbers, wanted) in rows {
+        let id = number_of(bank, *kind, *index, numbers, alloc)?;
+        assert!(rt; id == Some(*wanted), "term {wanted}");
+    }
+    Ok(())
+}
+
+const FIRST: &[Row<'static>] = &[
+    (Kind::Int, 5, &[], 0),
+    (Kind::Ci, 0, &[], 1),
+    (Kind::Le, 0, &[0, 1], 2),
+];
+
+const AGAIN: &[Row<'static>] = &[(Kind::Int, 5, &[], 0)];
+
+const ABOVE: &[Row<'static>] = &[(Kind::Not, 0, &[2], 3)];
+
+const ABOVE_AGAIN: &[Row<'static>] = &[(Kind::Stab, 0, &[0, 0, 0, 0, 0, 0], 3)];
+
 #[test]
 fn equal_terms_have_one_number(rt: HostRuntime) -> Result<(), AllocError> {
     let alloc = rt.alloc();
     let mut bank = Bank::new(alloc);
-    assert_eq!(rt; number_of(&mut bank, Kind::Int, 5, &[], alloc)?, Some(0));
-    assert_eq!(rt; number_of(&mut bank, Kind::Ci, 0, &[], alloc)?, Some(1));
-    assert_eq!(rt; number_of(&mut bank, Kind::Le, 0, &[0, 1], alloc)?, Some(2));
-    assert_eq!(rt; number_of(&mut bank, Kind::Int, 5, &[], alloc)?, Some(0));
-    assert_eq!(rt; bank.len(), 3);
+    hold(&rt, &mut bank, FIRST, alloc)?;
+    hold(&rt, &mut bank, AGAIN, alloc)?;
+    assert!(rt; bank.len() == 3);
     Ok(())
 }
 
@@ -63,22 +91,15 @@ fn terms_below_a_mark_stay(rt: HostRuntime) -> Result<(), AllocError> {
     let alloc = rt.alloc();
     let mut bank = Bank::new(alloc);
     let order = term(alloc, Kind::Le, 0, &[0, 1])?;
-    for (kind, index) in [(Kind::Int, 5), (Kind::Ci, 0)] {
-        assert!(rt; number_of(&mut bank, kind, index, &[], alloc)?.is_some());
-    }
-    assert_eq!(rt; number_of(&mut bank, Kind::Le, 0, &[0, 1], alloc)?, Some(2));
+    hold(&rt, &mut bank, FIRST, alloc)?;
     let len = bank.len();
     let mark = bank.mark();
-    assert_eq!(rt; number_of(&mut bank, Kind::Not, 0, &[2], alloc)?, Some(3));
+    hold(&rt, &mut bank, ABOVE, alloc)?;
     if bank.len() >= len {
         bank.release(mark);
     }
-    assert_eq!(rt; bank.len(), 3);
-    assert!(rt; holds(&bank, 2, &order));
-    assert_eq!(rt;
-        number_of(&mut bank, Kind::Stab, 0, &[0, 0, 0, 0, 0, 0], alloc)?,
-        Some(3)
-    );
+    assert!(rt; bank.len() == 3 && holds(&bank, 2, &order));
+    hold(&rt, &mut bank, ABOVE_AGAIN, alloc)?;
     assert!(rt; holds(&bank, 2, &order));
     Ok(())
 }

@@ -13,3 +13,5 @@ mod literals;
 mod pool;
 #[cfg(test)]
 mod sorts;
+#[cfg(test)]
+mod text;

@@ -16,16 +16,20 @@ fn value_of(alloc: Global, kind: Kind, index: i128) -> Result<Option<i128>, Allo
     }
 }
 
+const ROWS: &[(Kind, i128, Option<i128>)] = &[
+    (Kind::Int, 5, Some(5)),
+    (Kind::Int, -7, Some(-7)),
+    (Kind::Ci, 5, None),
+    (Kind::True, 0, None),
+];
+
 #[test]
 fn numbers_are_read(rt: HostRuntime) -> Result<(), AllocError> {
-    let cases = [
-        (Kind::Int, 5, Some(5)),
-        (Kind::Int, -7, Some(-7)),
-        (Kind::Ci, 5, None),
-        (Kind::True, 0, None),
-    ];
-    for (kind, index, wanted) in cases {
-        assert_eq!(rt; value_of(rt.alloc(), kind, index)?, wanted);
+    for (place, (kind, index, wanted)) in ROWS.iter().enumerate() {
+        assert!(rt;
+            value_of(rt.alloc(), *kind, *index)? == *wanted,
+            "row {place}"
+        );
     }
     Ok(())
 }

@@ -341,12 +341,12 @@ module _ {A : Type 0} (m : Mode) (plain : Exp → A) (over : (Exp → Exp) → A
   Link h = (a : A) → goes a ≡ true → v a ≡ true → v (h a) ≡ true
 
   -- of an operator of the mode
-  operator : (class : ℕ) (o : BinaryOperator) (behind : Tier) → allowed m o ≡ true → Has (gr.operator m plain over goes class o behind) Link
-  operator class o behind u = word_then (λ p. tree_then (λ r d. ends (λ a t q. over_is (λ x. e.Binary p.place o x r) a t (λ x w. binary_is m p.place o x r u w d) q)))
+  operator : (class : ℕ) (o : BinaryOperator) (following : Tier) → allowed m o ≡ true → Has (gr.operator m plain over goes class o following) Link
+  operator class o following u = word_then (λ p. tree_then (λ r d. ends (λ a t q. over_is (λ x. e.Binary p.place o x r) a t (λ x w. binary_is m p.place o x r u w d) q)))
 
   -- of one of both modes
-  plainly : (class : ℕ) (o : BinaryOperator) (behind : Tier) → of_code o ≡ true → Has (gr.operator m plain over goes class o behind) Link
-  plainly class o behind u = operator class o behind (in_both m o u)
+  plainly : (class : ℕ) (o : BinaryOperator) (following : Tier) → of_code o ≡ true → Has (gr.operator m plain over goes class o following) Link
+  plainly class o following u = operator class o following (in_both m o u)
 
   postfixed : {l : RuleOf language A} → Rule_is l v → Rule_is (gr.postfixed m plain over goes l) v
   postfixed k = a_chain k (word_then (λ o. part_then (suffix m) (λ h s. ends (λ a t q. over_is (h o.place) a t (s o.place) q))))
@@ -421,10 +421,10 @@ abbrev Makes : (Exp → Bool) → (Exp → Bool) → (Exp → Exp) → Type 0
 Makes v w h = (x : Exp) → v x ≡ true → w (h x) ≡ true
 
 -- what stands behind an arrow, of code
-abbrev Behind : (Exp → Bool) → (Span → Exp → Exp) → Type 0
-Behind w h = (o : Span) (x : Exp) → is_code x ≡ true → w (h o x) ≡ true
+abbrev Following : (Exp → Bool) → (Span → Exp → Exp) → Type 0
+Following w h = (o : Span) (x : Exp) → is_code x ≡ true → w (h o x) ≡ true
 
-a_field : Has gr.field (Behind is_field)
+a_field : Has gr.field (Following is_field)
 a_field = word_then (λ n. ends (λ o x d. d))
 
 arrow : Has gr.arrow (Makes is_code is_field)
@@ -448,14 +448,14 @@ any_place = further (λ x t q. field_code x q) arrow (after_arrow arrow (tree (P
 field_left : (x : Exp) → is_field x ≡ true → is_left x ≡ true
 field_left x h = place_left x (field_place x h)
 
-left_field : Has gr.field (Behind is_left)
+left_field : Has gr.field (Following is_left)
 left_field = use_of a_field (λ h s o x d. field_left (h o x) (s o x d))
 
-left_owns : Has gr.owns (Behind is_left)
+left_owns : Has gr.owns (Following is_left)
 left_owns = token_is (λ y u o x d. d)
 
 ghost_arrow : Has gr.ghost_arrow (Makes is_code is_left)
-ghost_arrow = word_then (λ o. part_then {R = Behind is_left} (both left_field left_owns) (λ h s. ends (s o.place)))
+ghost_arrow = word_then (λ o. part_then {R = Following is_left} (both left_field left_owns) (λ h s. ends (s o.place)))
 
 ghost_name : Rule_is gr.ghost_name is_left
 ghost_name = further left_code ghost_arrow (a_form (token_is (λ x o. refl)))
@@ -515,8 +515,8 @@ allocation = a_form (word_then (λ m. part_then size_of (λ h d. ends refl)))
 ghost_arguments : Part_is gr.ghost_arguments (every is_code)
 ghost_arguments = many_is {v = is_code} (tree GhostArgument)
 
-call_behind : Has gr.call_behind (λ h. (n : Id) → in_call (h n) ≡ true)
-call_behind = word_then (λ o. part_then (list_or_none_is {v = is_code} code) (λ xs d. part_then ghost_arguments (λ gs h. word_then (λ c. ends (λ n. pair d h)))))
+call_tail : Has gr.call_tail (λ h. (n : Id) → in_call (h n) ≡ true)
+call_tail = word_then (λ o. part_then (list_or_none_is {v = is_code} code) (λ xs d. part_then ghost_arguments (λ gs h. word_then (λ c. ends (λ n. pair d h)))))
 
 ghost_argument : Rule_is gr.ghost_argument is_code
 ghost_argument = a_form (word_then (λ a. word_then (λ b. part_then code (λ x d. word_then (λ c. ends d)))))
@@ -567,18 +567,18 @@ done_is (Open x) h = h
 rhs : Part_is gr.rhs in_right
 rhs =
     both (tree_is (λ x d. refl)) (both (tree_is (λ x d. d))
-    (value_then cast_done (λ x d t. both (part_then call_behind (λ h s. ends (s (gr.callee x)))) (ends (done_is x d))) (λ x d t. ends (done_is x d))))
+    (value_then cast_done (λ x d t. both (part_then call_tail (λ h s. ends (s (gr.callee x)))) (ends (done_is x d))) (λ x d t. ends (done_is x d))))
 
 abbrev Changes : (Exp → Assignment) → Type 0
 Changes h = (l : Exp) → is_place l ≡ true → in_assignment (h l) ≡ true
 
-assignment_behind : Has gr.assignment_behind Changes
-assignment_behind =
+assignment_tail : Has gr.assignment_tail Changes
+assignment_tail =
     both (word_then (λ o. part_then rhs (λ x d. ends (λ l u. pair u d)))) (both (word_then (λ o. part_then code (λ x d. ends (λ l u. pair u d))))
     (both (word_then (λ o. part_then code (λ x d. ends (λ l u. pair u d)))) (both (token_is (λ x o l u. pair u refl)) (token_is (λ x o l u. pair u refl)))))
 
 assigned : Rule_is gr.assigned in_assignment
-assigned = a_pick (a_form (tree_then (λ l d. part_then assignment_behind (λ h s. ends (s l d))))) (a_form (tree_then (λ l d. part_then assignment_behind (λ h s. ends (s l (field_place l d))))))
+assigned = a_pick (a_form (tree_then (λ l d. part_then assignment_tail (λ h s. ends (s l d))))) (a_form (tree_then (λ l d. part_then assignment_tail (λ h s. ends (s l (field_place l d))))))
 
 -- ---- ghost statements
 
@@ -653,10 +653,10 @@ abbrev Ends_statement : (Exp → Stm) → Type 0
 Ends_statement h = (l : Exp) → is_place l ≡ true → in_statement (h l) ≡ true
 
 assign_statement : Has gr.assign_statement Ends_statement
-assign_statement = part_then assignment_behind (λ h s. word_then (λ c. ends s))
+assign_statement = part_then assignment_tail (λ h s. word_then (λ c. ends s))
 
 call_statement : Has gr.call_statement Ends_statement
-call_statement = part_then call_behind (λ h s. word_then (λ c. ends (λ l u. s (gr.name_of l))))
+call_statement = part_then call_tail (λ h s. word_then (λ c. ends (λ l u. s (gr.name_of l))))
 
 if_is : (p : Span) (x : Exp) (a : Stm) (b : Option Stm) → is_code x ≡ true → in_statement a ≡ true → if_any in_statement b ≡ true → in_statement (gr.if_of p x a b) ≡ true
 if_is p x a None h k l = pair h k
@@ -707,11 +707,11 @@ annotated =
 statement : Rule_is gr.statement in_statement
 statement = a_pick (simple (λ x. x) in_statement (λ x d. d)) (a_form (word_then (λ p. part_then annotated (λ h s. ends (s p.place)))))
 
-invariant_behind : Has gr.invariant_behind (λ h. (p : Span) → is_spec ((h p).property) ≡ true)
-invariant_behind = word_then (λ q. part_then whole_spec (λ x d. word_then (λ c. ends (λ p. d))))
+invariant_tail : Has gr.invariant_tail (λ h. (p : Span) → is_spec ((h p).property) ≡ true)
+invariant_tail = word_then (λ q. part_then whole_spec (λ x d. word_then (λ c. ends (λ p. d))))
 
 loop_annotation : Has gr.loop_annotation (λ h. (p : Span) → in_loop (h p) ≡ true)
-loop_annotation = both (part_then invariant_behind (λ h s. ends (λ p. refl))) (part_then annotated (λ h s. ends s))
+loop_annotation = both (part_then invariant_tail (λ h s. ends (λ p. refl))) (part_then annotated (λ h s. ends s))
 
 loop_item : Rule_is gr.loop_item in_loop
 loop_item = a_pick (simple gr.as_statement in_loop (λ x d. d)) (a_form (word_then (λ p. part_then loop_annotation (λ h s. ends (s p.place)))))
@@ -730,11 +730,11 @@ written = both (tree_is (λ x d. refl)) (part_then whole_spec (λ x d. ends refl
 condition : (class : ℕ) (x : Condition) → Has (gr.condition class x) Any
 condition class x = word_then (λ q. part_then whole_spec (λ y d. ends tt))
 
-clause_behind : Has gr.clause_behind Any
-clause_behind = both (condition _ _) (both (condition _ _) (both (condition _ _) (word_then (λ q. part_then (list_is {v = anything} written) (λ xs d. ends tt)))))
+clause_tail : Has gr.clause_tail Any
+clause_tail = both (condition _ _) (both (condition _ _) (both (condition _ _) (word_then (λ q. part_then (list_is {v = anything} written) (λ xs d. ends tt)))))
 
 clause_of : Rule_is gr.clause_of anything
-clause_of = a_form (word_then (λ p. part_then clause_behind (λ h s. word_then (λ c. ends refl))))
+clause_of = a_form (word_then (λ p. part_then clause_tail (λ h s. word_then (λ c. ends refl))))
 
 param : Part_is gr.param anything
 param = part_then ctype (λ ty i. word_then (λ n. ends refl))
@@ -745,8 +745,8 @@ params = both (word_then (λ v. ends tt)) (use_of (list_or_none_is {v = anything
 ghost_param : Part_is gr.ghost_param anything
 ghost_param = word_then (λ a. word_then (λ b. part_then gtype (λ ty i. word_then (λ n. word_then (λ c. ends refl)))))
 
-function_behind : Has gr.function_behind (λ h. (n : Id) (p : Span) (ty : Option Ty) → in_statements (h n p ty).body.all ≡ true)
-function_behind =
+function_tail : Has gr.function_tail (λ h. (n : Id) (p : Span) (ty : Option Ty) → in_statements (h n p ty).body.all ≡ true)
+function_tail =
     word_then (λ o. part_then params (λ ps i. part_then (many_is {v = anything} ghost_param) (λ gs j. word_then (λ c. part_then (many_is {v = anything} (tree ClauseOf)) (λ cs k. tree_then (λ b d. ends (λ n p ty. d)))))))
 
 leaf_pointer : Has gr.leaf_pointer Any
@@ -765,7 +765,7 @@ ghost_field : Has gr.ghost_field Members_are
 ghost_field = word_then (λ q. part_then (flag _) (λ v i. part_then ghost_type (λ ty j. word_then (λ n. part_then semicolon_or_none (λ z k. word_then (λ c. ends (λ p. refl)))))))
 
 member_annotation : Has gr.member_annotation Members_are
-member_annotation = both (part_then invariant_behind (λ h s. ends s)) ghost_field
+member_annotation = both (part_then invariant_tail (λ h s. ends s)) ghost_field
 
 member_of : Rule_is gr.member_of in_member
 member_of = a_pick (a_form (part_then (flag _) (λ v i. part_then field_type (λ ty j. word_then (λ n. word_then (λ z. ends refl)))))) (a_form (word_then (λ p. part_then member_annotation (λ h s. ends (s p.place)))))
@@ -776,25 +776,25 @@ attribute = both (token_is (λ x o. refl)) (both (token_is (λ x o. refl)) (toke
 attribute_list : Part_is gr.attribute_list anything
 attribute_list = word_then (λ a. part_then (list_is {v = anything} attribute) (λ xs d. word_then (λ c. ends refl)))
 
-struct_behind : Has gr.struct_behind (λ h. (n : Id) (p : Span) (xs : List Attribute) → every in_member (h n p xs).members ≡ true)
-struct_behind = word_then (λ o. part_then (many_is {v = in_member} (tree MemberOf)) (λ ms d. word_then (λ c. word_then (λ z. ends (λ n p xs. d)))))
+struct_tail : Has gr.struct_tail (λ h. (n : Id) (p : Span) (xs : List Attribute) → every in_member (h n p xs).members ≡ true)
+struct_tail = word_then (λ o. part_then (many_is {v = in_member} (tree MemberOf)) (λ ms d. word_then (λ c. word_then (λ z. ends (λ n p xs. d)))))
 
 abbrev Items_behind : (Id → Span → Item) → Type 0
 Items_behind h = (n : Id) (p : Span) → in_item (h n p) ≡ true
 
 pointer_function : Has gr.pointer_function Items_behind
-pointer_function = word_then (λ a. word_then (λ n. part_then function_behind (λ h s. ends (λ x p. s (gr.id_of n) p (Some (e.Pointer x))))))
+pointer_function = word_then (λ a. word_then (λ n. part_then function_tail (λ h s. ends (λ x p. s (gr.id_of n) p (Some (e.Pointer x))))))
 
-struct_or_function : Has (by_next (gr.struct_behind ▷ nothing (λ h n p. it.Struct (h n p []))) gr.pointer_function) Items_behind
-struct_or_function = both (part_then struct_behind (λ h s. ends (λ n p. s n p []))) pointer_function
+struct_or_function : Has (by_next (gr.struct_tail ▷ nothing (λ h n p. it.Struct (h n p []))) gr.pointer_function) Items_behind
+struct_or_function = both (part_then struct_tail (λ h s. ends (λ n p. s n p []))) pointer_function
 
 result_type : Has gr.result_type Any
 result_type = both (token_is (λ x o. tt)) (part_then int_type (λ ty i. ends tt))
 
 item_of : Rule_is gr.item_of in_item
 item_of =
-    a_pick (a_form (part_then attribute_list (λ one i. part_then (many_is {v = anything} attribute_list) (λ more j. word_then (λ p. word_then (λ n. part_then struct_behind (λ h s. ends (s (gr.id_of n) p.place (gr.concat (one ∷ more))))))))))
-    (a_pick (a_form (word_then (λ p. word_then (λ n. part_then struct_or_function (λ h s. ends (s (gr.id_of n) p.place)))))) (a_form (part_then result_type (λ ty i. word_then (λ n. part_then function_behind (λ h s. ends (s (gr.id_of n) ty.0 ty.1)))))))
+    a_pick (a_form (part_then attribute_list (λ one i. part_then (many_is {v = anything} attribute_list) (λ more j. word_then (λ p. word_then (λ n. part_then struct_tail (λ h s. ends (s (gr.id_of n) p.place (gr.concat (one ∷ more))))))))))
+    (a_pick (a_form (word_then (λ p. word_then (λ n. part_then struct_or_function (λ h s. ends (s (gr.id_of n) p.place)))))) (a_form (part_then result_type (λ ty i. word_then (λ n. part_then function_tail (λ h s. ends (s (gr.id_of n) ty.0 ty.1)))))))
 
 program : Rule_is gr.program in_form
 program = a_form (tree_then (λ x d. part_then (many_is {v = in_item} (tree ItemOf)) (λ xs h. ends (pair d h))))

@@ -348,16 +348,16 @@ level InSpec Equivalence = equivalences InSpec gr.same gr.change gr.always expre
 
 -- ---- left sides
 
-abbrev Behind : (Exp → Exp) → ℕ → Type 0
-Behind f i = (x : Exp) (j : ℕ) → expression x ≤ 64 * j → expression (f x) ≤ 64 * (j + i)
+abbrev Following : (Exp → Exp) → ℕ → Type 0
+Following f i = (x : Exp) (j : ℕ) → expression x ≤ 64 * j → expression (f x) ≤ 64 * (j + i)
 
-arrow : Has gr.arrow Behind
+arrow : Has gr.arrow Following
 arrow = word_then (λ o. part_then field (λ f i s. ends (λ x j u. omega (arith, s o.place x j u))))
 
-after_arrow : {p : PartOf language (Exp → Exp)} {q : PartOf language Exp} → Has p Behind → Part_is q expression → Rule_is (gr.after_arrow q p) expression
+after_arrow : {p : PartOf language (Exp → Exp)} {q : PartOf language Exp} → Has p Following → Part_is q expression → Rule_is (gr.after_arrow q p) expression
 after_arrow k l = a_form (part_then l (λ x i d. part_then k (λ f j s. ends (omega (arith, s x i d)))))
 
-further : {p : PartOf language (Exp → Exp)} {s : RuleOf language Exp} {goes : Exp → Bool} → Has p Behind → Rule_is s expression → Rule_is (chain s goes p gr.apply_to) expression
+further : {p : PartOf language (Exp → Exp)} {s : RuleOf language Exp} {goes : Exp → Bool} → Has p Following → Rule_is s expression → Rule_is (chain s goes p gr.apply_to) expression
 further k r = a_chain r (use_of k (λ f i s a j t q. omega (arith, s a j q)))
 
 name_place : Rule_is gr.name_place expression
@@ -369,7 +369,7 @@ other_place = further arrow (after_arrow arrow (tree Unnamed))
 any_place : Rule_is gr.any_place expression
 any_place = further arrow (after_arrow arrow (tree (Primary Code)))
 
-ghost_arrow : Has gr.ghost_arrow Behind
+ghost_arrow : Has gr.ghost_arrow Following
 ghost_arrow = word_then (λ o. part_then {R = Suffix} (both field owns) (λ f i s. ends (λ x j u. omega (arith, s o.place x j u))))
 
 ghost_name : Rule_is gr.ghost_name expression
@@ -390,19 +390,19 @@ set_quantifier = a_pick (set_quantified _ _) (set_quantified _ _)
 set_start : Rule_is gr.set_start expression
 set_start = a_pick set_primary set_quantifier
 
-spec_arrow : Has gr.spec_arrow Behind
+spec_arrow : Has gr.spec_arrow Following
 spec_arrow = word_then (λ o. part_then (suffix InSpec) (λ f i s. ends (λ x j u. omega (arith, s o.place x j u))))
 
 set_element : Rule_is gr.element expression
 set_element = further spec_arrow (a_pick set_primary (after_arrow spec_arrow (tree SetQuantifier)))
 
-in_set : Has gr.in_set Behind
+in_set : Has gr.in_set Following
 in_set = word_then (λ o. tree_then (λ r i d. ends (λ x j u. omega arith)))
 
-and_membership : Has gr.and_membership Behind
+and_membership : Has gr.and_membership Following
 and_membership = word_then (λ o. tree_then (λ r i d. ends (λ x j u. omega arith)))
 
-implies_body : Has gr.implies_body Behind
+implies_body : Has gr.implies_body Following
 implies_body = word_then (λ o. tree_then (λ r i d. ends (λ x j u. omega arith)))
 
 memberships : Rule_is gr.memberships expression
@@ -429,8 +429,8 @@ ghost_element = tree_is (λ x i d. omega arith)
 ghost_arguments : Part_is gr.ghost_arguments (sum element)
 ghost_arguments = many_is {v = element} ghost_element
 
-call_behind : Has gr.call_behind (λ f i. (n : Id) → 8 + h.call (f n) ≤ 64 * i)
-call_behind = word_then (λ o. part_then (list_or_none_is {v = element} code_element) (λ xs i d. part_then ghost_arguments (λ gs j f. word_then (λ c. ends (λ n. omega arith)))))
+call_tail : Has gr.call_tail (λ f i. (n : Id) → 8 + h.call (f n) ≤ 64 * i)
+call_tail = word_then (λ o. part_then (list_or_none_is {v = element} code_element) (λ xs i d. part_then ghost_arguments (λ gs j f. word_then (λ c. ends (λ n. omega arith)))))
 
 ghost_argument : Rule_is gr.ghost_argument expression
 ghost_argument = a_form (word_then (λ a. word_then (λ b. part_then code (λ x i d. word_then (λ c. ends (omega arith))))))
@@ -493,18 +493,18 @@ done_is (Open x) = omega arith
 rhs : Part_is gr.rhs (λ x. 4 + h.right x)
 rhs =
     both (tree_is (λ x i d. omega arith)) (both (tree_is (λ x i d. omega arith))
-    (value_then cast_done (λ x i d t. both (part_then call_behind (λ f j s. ends (omega (arith, s (gr.callee x))))) (ends (omega (arith, done_is x)))) (λ x i d t. ends (omega (arith, done_is x)))))
+    (value_then cast_done (λ x i d t. both (part_then call_tail (λ f j s. ends (omega (arith, s (gr.callee x))))) (ends (omega (arith, done_is x)))) (λ x i d t. ends (omega (arith, done_is x)))))
 
 abbrev Changes : (Exp → Assignment) → ℕ → Type 0
 Changes f i = (l : Exp) (k : ℕ) → expression l ≤ 64 * k → 8 + h.assignment (f l) ≤ 64 * (k + i)
 
-assignment_behind : Has gr.assignment_behind Changes
-assignment_behind =
+assignment_tail : Has gr.assignment_tail Changes
+assignment_tail =
     both (word_then (λ o. part_then rhs (λ x i d. ends (λ l k u. omega arith)))) (both (word_then (λ o. part_then code (λ x i d. ends (λ l k u. omega arith))))
     (both (word_then (λ o. part_then code (λ x i d. ends (λ l k u. omega arith)))) (both (token_is (λ x l k u. omega arith)) (token_is (λ x l k u. omega arith)))))
 
 assigned : Rule_is gr.assigned (λ x. 8 + h.assignment x)
-assigned = a_pick (a_form (tree_then (λ l i d. part_then assignment_behind (λ f j s. ends (omega (arith, s l i d)))))) (a_form (tree_then (λ l i d. part_then assignment_behind (λ f j s. ends (omega (arith, s l i d))))))
+assigned = a_pick (a_form (tree_then (λ l i d. part_then assignment_tail (λ f j s. ends (omega (arith, s l i d)))))) (a_form (tree_then (λ l i d. part_then assignment_tail (λ f j s. ends (omega (arith, s l i d))))))
 
 -- ---- ghost statements
 
@@ -573,10 +573,10 @@ abbrev Ends_statement : (Exp → Stm) → ℕ → Type 0
 Ends_statement f i = (l : Exp) (k : ℕ) → expression l ≤ 64 * k → 8 + h.statement (f l) ≤ 64 * (k + i)
 
 assign_statement : Has gr.assign_statement Ends_statement
-assign_statement = part_then assignment_behind (λ f i s. word_then (λ c. ends (λ l k u. omega (arith, s l k u))))
+assign_statement = part_then assignment_tail (λ f i s. word_then (λ c. ends (λ l k u. omega (arith, s l k u))))
 
 call_statement : Has gr.call_statement Ends_statement
-call_statement = part_then call_behind (λ f i s. word_then (λ c. ends (λ l k u. omega (arith, s (gr.name_of l)))))
+call_statement = part_then call_tail (λ f i s. word_then (λ c. ends (λ l k u. omega (arith, s (gr.name_of l)))))
 
 if_is : (p : Span) (x : Exp) (a : Stm) (b : Option Stm) → h.statement (gr.if_of p x a b) ≡ 1 + (h.expression x + (h.statement a + optional h.statement b))
 if_is p x a None = omega arith
@@ -632,11 +632,11 @@ annotated =
 statement : Rule_is gr.statement (λ x. 8 + h.statement x)
 statement = a_pick (simple (λ x. x) (λ x. 8 + h.statement x) (λ x. refl)) (a_form (word_then (λ p. part_then annotated (λ f i s. ends (omega (arith, s p.place))))))
 
-invariant_behind : Has gr.invariant_behind (λ f i. (p : Span) → 16 + h.invariant (f p) ≤ 64 * i)
-invariant_behind = word_then (λ q. part_then whole_spec (λ x i d. word_then (λ c. ends (λ p. omega arith))))
+invariant_tail : Has gr.invariant_tail (λ f i. (p : Span) → 16 + h.invariant (f p) ≤ 64 * i)
+invariant_tail = word_then (λ q. part_then whole_spec (λ x i d. word_then (λ c. ends (λ p. omega arith))))
 
 loop_annotation : Has gr.loop_annotation (λ f i. (p : Span) → in_loop (f p) ≤ 64 * i)
-loop_annotation = both (part_then invariant_behind (λ f i s. ends (λ p. omega (arith, s p)))) (part_then annotated (λ f i s. ends (λ p. omega (arith, s p))))
+loop_annotation = both (part_then invariant_tail (λ f i s. ends (λ p. omega (arith, s p)))) (part_then annotated (λ f i s. ends (λ p. omega (arith, s p))))
 
 loop_item : Rule_is gr.loop_item in_loop
 loop_item = a_pick (simple gr.as_statement in_loop (λ x. refl)) (a_form (word_then (λ p. part_then loop_annotation (λ f i s. ends (omega (arith, s p.place))))))
@@ -655,11 +655,11 @@ Clauses f i = (p : Span) → 8 + h.clause (f p) ≤ 64 * i
 condition : (class : ℕ) (x : Condition) → Has (gr.condition class x) Clauses
 condition class x = word_then (λ q. part_then whole_spec (λ y i d. ends (λ p. omega arith)))
 
-clause_behind : Has gr.clause_behind Clauses
-clause_behind = both (condition _ _) (both (condition _ _) (both (condition _ _) (word_then (λ q. part_then (list_is {v = λ x. suc (h.written x)} written) (λ xs i d. ends (λ p. omega arith))))))
+clause_tail : Has gr.clause_tail Clauses
+clause_tail = both (condition _ _) (both (condition _ _) (both (condition _ _) (word_then (λ q. part_then (list_is {v = λ x. suc (h.written x)} written) (λ xs i d. ends (λ p. omega arith))))))
 
 clause_of : Rule_is gr.clause_of (λ x. 8 + h.clause x)
-clause_of = a_form (word_then (λ p. part_then clause_behind (λ f i s. word_then (λ c. ends (omega (arith, s p.place))))))
+clause_of = a_form (word_then (λ p. part_then clause_tail (λ f i s. word_then (λ c. ends (omega (arith, s p.place))))))
 
 param : Part_is gr.param (λ x. suc (h.parameter x))
 param = part_then ctype (λ ty i d. word_then (λ n. ends (omega (arith, type_two ty.1))))
@@ -674,8 +674,8 @@ some_type : (ty : Option Ty) → optional h.value_type ty ≤ 2
 some_type None = omega arith
 some_type (Some ty) = type_two ty
 
-function_behind : Has gr.function_behind (λ f i. (n : Id) (p : Span) (ty : Option Ty) → 10 + h.function (f n p ty) ≤ 64 * i)
-function_behind =
+function_tail : Has gr.function_tail (λ f i. (n : Id) (p : Span) (ty : Option Ty) → 10 + h.function (f n p ty) ≤ 64 * i)
+function_tail =
     word_then (λ o. part_then params (λ ps i d. part_then (many_is {v = λ x. suc (h.parameter x)} ghost_param) (λ gs j f. word_then (λ c. part_then (many_is {v = λ x. suc (h.clause x)} (tree_is (λ x l u. omega arith))) (λ cs k q. tree_then (λ b l r. ends (λ n p ty. omega (arith, some_type ty))))))))
 
 leaf_pointer : Has gr.leaf_pointer (λ x i. 0 ≤ i)
@@ -694,7 +694,7 @@ ghost_field : Has gr.ghost_field Members_are
 ghost_field = word_then (λ q. part_then (flag _) (λ v i d. part_then ghost_type (λ ty j f. word_then (λ n. part_then semicolon_or_none (λ z k q. word_then (λ c. ends (λ p. omega (arith, type_two ty.1))))))))
 
 member_annotation : Has gr.member_annotation Members_are
-member_annotation = both (part_then invariant_behind (λ f i s. ends (λ p. omega (arith, s p)))) ghost_field
+member_annotation = both (part_then invariant_tail (λ f i s. ends (λ p. omega (arith, s p)))) ghost_field
 
 member_of : Rule_is gr.member_of (λ x. 8 + h.member x)
 member_of =
@@ -714,26 +714,26 @@ all_attributes (xs ∷ xss) = joined_attributes xs (gr.concat xss) ∙ ap (λ i.
 attribute_list : Part_is gr.attribute_list (h.all h.attribute)
 attribute_list = word_then (λ a. part_then (list_is {v = λ x. suc (h.attribute x)} attribute) (λ xs i d. word_then (λ c. ends (omega arith))))
 
-struct_behind : Has gr.struct_behind (λ f i. (n : Id) (p : Span) (xs : List Attribute) → 10 + h.struct (f n p xs) ≤ 64 * i + h.all h.attribute xs)
-struct_behind = word_then (λ o. part_then (many_is {v = λ x. suc (h.member x)} (tree_is (λ x l u. omega arith))) (λ ms i d. word_then (λ c. word_then (λ z. ends (λ n p xs. omega arith)))))
+struct_tail : Has gr.struct_tail (λ f i. (n : Id) (p : Span) (xs : List Attribute) → 10 + h.struct (f n p xs) ≤ 64 * i + h.all h.attribute xs)
+struct_tail = word_then (λ o. part_then (many_is {v = λ x. suc (h.member x)} (tree_is (λ x l u. omega arith))) (λ ms i d. word_then (λ c. word_then (λ z. ends (λ n p xs. omega arith)))))
 
 abbrev Items_behind : (Id → Span → Item) → ℕ → Type 0
 Items_behind f i = (n : Id) (p : Span) → 8 + h.item (f n p) ≤ 64 * i
 
 pointer_function : Has gr.pointer_function Items_behind
-pointer_function = word_then (λ a. word_then (λ n. part_then function_behind (λ f i s. ends (λ x p. omega (arith, s (gr.id_of n) p (Some (e.Pointer x)))))))
+pointer_function = word_then (λ a. word_then (λ n. part_then function_tail (λ f i s. ends (λ x p. omega (arith, s (gr.id_of n) p (Some (e.Pointer x)))))))
 
-struct_or_function : Has (by_next (gr.struct_behind ▷ nothing (λ f n p. it.Struct (f n p []))) gr.pointer_function) Items_behind
-struct_or_function = both (part_then struct_behind (λ f i s. ends (λ n p. omega (arith, s n p [])))) pointer_function
+struct_or_function : Has (by_next (gr.struct_tail ▷ nothing (λ f n p. it.Struct (f n p []))) gr.pointer_function) Items_behind
+struct_or_function = both (part_then struct_tail (λ f i s. ends (λ n p. omega (arith, s n p [])))) pointer_function
 
 result_type : Has gr.result_type (λ x i. 0 ≤ i)
 result_type = both (token_is (λ x. omega arith)) (part_then int_type (λ ty i d. ends (omega arith)))
 
 item_of : Rule_is gr.item_of (λ x. 8 + h.item x)
 item_of =
-    a_pick (a_form (part_then attribute_list (λ one i d. part_then (many_is {v = h.all h.attribute} attribute_list) (λ more j f. word_then (λ p. word_then (λ n. part_then struct_behind (λ g k s. ends (omega (arith, all_attributes (one ∷ more), s (gr.id_of n) p.place (gr.concat (one ∷ more)))))))))))
+    a_pick (a_form (part_then attribute_list (λ one i d. part_then (many_is {v = h.all h.attribute} attribute_list) (λ more j f. word_then (λ p. word_then (λ n. part_then struct_tail (λ g k s. ends (omega (arith, all_attributes (one ∷ more), s (gr.id_of n) p.place (gr.concat (one ∷ more)))))))))))
     (a_pick (a_form (word_then (λ p. word_then (λ n. part_then struct_or_function (λ f i s. ends (omega (arith, s (gr.id_of n) p.place)))))))
-    (a_form (part_then result_type (λ ty i d. word_then (λ n. part_then function_behind (λ f j s. ends (omega (arith, s (gr.id_of n) ty.0 ty.1))))))))
+    (a_form (part_then result_type (λ ty i d. word_then (λ n. part_then function_tail (λ f j s. ends (omega (arith, s (gr.id_of n) ty.0 ty.1))))))))
 
 program : Rule_is gr.program parts
 program = a_form (tree_then (λ x i d. part_then (many_is {v = λ x. suc (h.item x)} (tree_is (λ x l u. omega arith))) (λ xs j f. ends (omega arith))))

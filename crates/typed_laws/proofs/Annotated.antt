@@ -6,18 +6,18 @@ use Rattle.c_syntax.specs.declared.token.Span.{Span}
 use Rattle.c_syntax.specs.Items as i
 use Rattle.c_syntax.specs.Items.{FunctionTree, Item}
 use Rattle.object_types.specs.Sets.{every}
-use Rattle.c_types.specs.Declarations.{functions}
-use Rattle.c_types.specs.Contexts.{Variable}
-use Rattle.c_types.specs.Pieces.{Function, struct_name, if_some, types_of, clause, in_function, in_statements}
-use Rattle.c_types.specs.First.{IsWellTyped}
-use Rattle.c_types.specs.TypeLaws.{Quiet}
+use Rattle.typing_spec.specs.Declarations.{functions}
+use Rattle.typing_spec.specs.Contexts.{Variable}
+use Rattle.typing_spec.specs.Pieces.{Function, struct_name, if_some, types_of, clause, in_function, in_statements}
+use Rattle.typing_spec.specs.First.{IsWellTyped}
+use Rattle.typing_spec.specs.TypeLaws.{Quiet}
 use Rattle.typed_program.specs.Trees.{FunctionInfo}
 use Rattle.typed_program.specs.Numbers.{Around, declared_type}
 use Rattle.typed_program.specs.Shapes.{Sorts}
 use Rattle.typed_program.specs.Statements.{plus_formulas}
 use Rattle.typed_program.specs.Variables.{parameter, variables, all_declared}
-use Rattle.typed_program.specs.Sites.{all_tell}
-use Rattle.typed_program.specs.Tables.{around_function, contract_formulas, clause_tells, function, function_tells, function_sorts, numbered_function, shapes, program}
+use Rattle.typed_program.specs.Sites.{all_occurrences}
+use Rattle.typed_program.specs.Tables.{around_function, contract_formulas, clause_occurrences, function, function_occurrences, function_sorts, numbered_function, shapes, program}
 use Rattle.typed_laws.specs.Fits.{of_function, at_return, fits, names_object, in_row}
 use Rattle.typed_laws.specs.Law.{AnnotationsLaw}
 use Rattle.typed_laws.proofs.Quiet.{quiet_item, quiet_left, quiet_right, quiet_rest}
@@ -36,7 +36,7 @@ use Rattle.typed_laws.proofs.FitSites.{sites_in_table}
 -- ---- functions
 
 -- the clauses of a contract break no rule
-contract_quiet : (items : List Item) (end : Span) → IsWellTyped items end → (h : FunctionTree) → Contains (functions items) h → Quiet (flat_map (clause (in_function items h)) h.contract)
+pub contract_quiet : (items : List Item) (end : Span) → IsWellTyped items end → (h : FunctionTree) → Contains (functions items) h → Quiet (flat_map (clause (in_function items h)) h.contract)
 contract_quiet items end typed h c =
     let contract = flat_map (clause (in_function items h)) h.contract in
     let body = in_statements (in_function items h) h.body.all in
@@ -62,14 +62,14 @@ module _ (items : List Item) (k : ℕ) (info : FunctionInfo) (of : FunctionOf it
   value_is : info.value ≡ option_map (declared_type items) of.tree.value
   value_is = ap (λ z. z.value) of.is
 
-  all_told : Known items sorts (λ j. function_tells items j of.tree)
+  all_told : Known items sorts (λ j. function_occurrences items j of.tree)
   all_told z c = in_functions items of.tree z c 0 items of.in_items
 
-  contract_told : Known items sorts (λ j. flat_map (clause_tells (around_function items of.tree)) of.tree.contract)
-  contract_told = known_left items sorts (λ j. flat_map (clause_tells (around_function items of.tree)) of.tree.contract) (λ j. all_tell (around_function items of.tree) j of.tree.body.all) all_told
+  contract_told : Known items sorts (λ j. flat_map (clause_occurrences (around_function items of.tree)) of.tree.contract)
+  contract_told = known_left items sorts (λ j. flat_map (clause_occurrences (around_function items of.tree)) of.tree.contract) (λ j. all_occurrences (around_function items of.tree) j of.tree.body.all) all_told
 
-  body_told : Known items sorts (λ j. all_tell (around_function items of.tree) j of.tree.body.all)
-  body_told = known_right items sorts (λ j. flat_map (clause_tells (around_function items of.tree)) of.tree.contract) (λ j. all_tell (around_function items of.tree) j of.tree.body.all) all_told
+  body_told : Known items sorts (λ j. all_occurrences (around_function items of.tree) j of.tree.body.all)
+  body_told = known_right items sorts (λ j. flat_map (clause_occurrences (around_function items of.tree)) of.tree.contract) (λ j. all_occurrences (around_function items of.tree) j of.tree.body.all) all_told
 
   body_known : (v : Variable) → Contains (all_declared of.tree.body.all) v → Contains (variables of.tree) v
   body_known v c = Contains-append_right (map (parameter false) of.tree.parameters) (map (parameter true) of.tree.ghost_parameters ++ all_declared of.tree.body.all) v (Contains-append_right (map (parameter true) of.tree.ghost_parameters) (all_declared of.tree.body.all) v c)

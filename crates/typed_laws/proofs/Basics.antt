@@ -9,7 +9,7 @@ use Rattle.std.proofs.lemmas.Iterator.Adapters.{position_from-zero}
 use Rattle.std.proofs.lemmas.Slice.Eq.{bytes_eq-Decides}
 use Rattle.c_syntax.specs.Expressions.{Id}
 use Rattle.object_types.specs.Sets.{every}
-use Rattle.c_types.specs.Declarations.{same_name}
+use Rattle.typing_spec.specs.Declarations.{same_name}
 
 -- ---- truth values
 
@@ -109,6 +109,10 @@ contains_map f (y ∷ ys) x c =
       | inl h ↦ subst (λ z. Contains (f y ∷ map f ys) (f z)) h (contains_head (f y) (map f ys))
       | inr d ↦ contains_tail (f y) (f x) (map f ys) (contains_map f ys x d)
     ]
+
+pub in_map : {A B : Type 0} (f : A → B) (xs : List A) (y : B) → Contains (map f xs) y → (x : A) × Contains xs x × (f x ≡ y)
+in_map f [] y c = absurd (contains_none y c)
+in_map f (x ∷ xs) y c = elim (contains_cases (f x) y (map f xs) c) [ inl e ↦ (x, contains_head x xs, e) | inr d ↦ let e = in_map f xs y d in (e.0, contains_tail x e.0 xs e.1, e.2) ]
 
 pub in_flat_map : {A B : Type 0} (f : A → List B) (xs : List A) (y : B) → Contains (flat_map f xs) y → (x : A) × Contains xs x × Contains (f x) y
 in_flat_map f [] y c = absurd (contains_none y c)

@@ -1,6 +1,6 @@
 -- Statements that break no rule are typed well: `body_law`.
-use Rattle.std.specs.Prelude.{Bool, true, false, ◌&&◌, ℕ, ◌+◌, List, [], ◌∷◌, ◌++◌, map, Option, Some, None, option_map, Contains, IsTrue}
-use Rattle.std.proofs.Common.{◌≡◌, refl, sym, ap, subst, arith, ◌∙◌}
+use Rattle.std.specs.Prelude.{Bool, true, false, ◌&&◌, ℕ, ◌+◌, List, [], ◌∷◌, ◌++◌, Option, Some, None, option_map, Contains, IsTrue}
+use Rattle.std.proofs.Common.{◌≡◌, refl, sym, subst, arith, ◌∙◌}
 use Rattle.std.proofs.lemmas.Bool.{true≢false}
 use Rattle.c_syntax.specs.declared.token.Span.{Span}
 use Rattle.c_syntax.specs.Expressions as e
@@ -9,38 +9,37 @@ use Rattle.c_syntax.specs.Grammar.{first_place}
 use Rattle.c_syntax.specs.Statements as st
 use Rattle.c_syntax.specs.Statements.{Inv, Stm, Stms}
 use Rattle.c_syntax.specs.Items.{Item}
-use Rattle.c_types.specs.Contexts as texts
-use Rattle.c_types.specs.Contexts.{Context, Scope, Variable, ghost, inside_atomic, inside_unwrapping}
-use Rattle.c_types.specs.Types.{kind_of, kind, converts}
-use Rattle.c_types.specs.Values.{right_kind}
-use Rattle.c_types.specs.Rules as r
-use Rattle.c_types.specs.Pieces as pieces
-use Rattle.c_types.specs.Pieces.{Piece, Statement, GhostStatement, Expression, expression, expressions, struct_name, behind, invariants}
-use Rattle.c_types.specs.Places.{place_if, fail_together}
-use Rattle.c_types.specs.Conversions.{return_uses}
-use Rattle.c_types.specs.Atomic.{is_call_or_malloc}
-use Rattle.c_types.specs.Functions.{returns_well}
-use Rattle.c_types.specs.TypeLaws.{Where, Typed, IsKnown, Quiet, type_typed}
-use Rattle.object_types.specs.Sets.{every}
+use Rattle.typing_spec.specs.Contexts as texts
+use Rattle.typing_spec.specs.Contexts.{Context, Scope, Variable, ghost, inside_atomic, inside_unwrapping}
+use Rattle.typing_spec.specs.Types.{kind_of, kind, converts}
+use Rattle.typing_spec.specs.Values.{right_kind}
+use Rattle.typing_spec.specs.Rules as r
+use Rattle.typing_spec.specs.Pieces as pieces
+use Rattle.typing_spec.specs.Pieces.{Piece, Statement, GhostStatement, Expression, expression, expressions, struct_name, following, invariants}
+use Rattle.typing_spec.specs.Places.{place_if, fail_together}
+use Rattle.typing_spec.specs.Conversions.{return_uses}
+use Rattle.typing_spec.specs.Atomic.{is_call_or_malloc}
+use Rattle.typing_spec.specs.Functions.{returns_well}
+use Rattle.typing_spec.specs.TypeLaws.{Where, Typed, IsKnown, Quiet, type_typed}
 use Rattle.typed_program.specs.Trees as t
 use Rattle.typed_program.specs.Trees.{FunctionInfo, Program}
 use Rattle.typed_program.specs.Numbers.{Around, declared_type}
-use Rattle.typed_program.specs.Codes.{code, codes, stored}
+use Rattle.typed_program.specs.Codes.{stored}
 use Rattle.typed_program.specs.Variables.{declared, all_declared}
 use Rattle.typed_program.specs.Statements as s
-use Rattle.typed_program.specs.Statements.{Before, plus, plus_formulas, in_invariants, type_or, left_type, target, variable, right, changed, conversion_between, value_of_call, assigned_by, assigned, maybe_assigned, defined, known_behind, listed, returned, inner_row, inner_rows, row, rows, append, append_inner}
+use Rattle.typed_program.specs.Statements.{Counters, plus, plus_formulas, in_invariants, type_or, left_type, target, variable, right, changed, conversion_between, value_of_call, assigned_by, assigned, maybe_assigned, defined, known_behind, listed, returned, inner_row, inner_rows, row, rows, append, append_inner}
 use Rattle.tree_forms.specs.InForm as form
 use Rattle.tree_forms.specs.InForm.{is_code, is_place, all_code, if_any}
 use Rattle.typed_laws.proofs.Basics.{and_both, and_left, and_right, from_not, neither_right}
 use Rattle.typed_laws.proofs.Quiet.{quiet_left, quiet_right, quiet_first, quiet_rest, not_placed, none_placed}
-use Rattle.typed_laws.proofs.Tests.{right_values, takes, is_ref, all_refs, simple_ok, return_ok, stmt_ok, row_ok, inner_row_ok}
+use Rattle.typed_laws.proofs.Tests.{right_values, takes, simple_ok, return_ok, stmt_ok, row_ok, inner_row_ok}
 use Rattle.typed_laws.proofs.Facts.{Tables, InCode, Numbered, SitesOf, runs}
 use Rattle.typed_laws.proofs.Goals.{CodeLaw}
 use Rattle.typed_laws.proofs.BodyParts.{Converts, piece_converts}
 use Rattle.typed_laws.proofs.Sides.{FunctionsTyped, Setting, here, around, at, Knows, Valued, valued, stores, placed}
 use Rattle.typed_laws.proofs.BodyRights.{EffectStands, Stands, right_ok, effect_ok}
 use Rattle.typed_laws.proofs.BodyCalls.{kind_known, call_made, result_fits}
-use Rattle.typed_laws.proofs.Ghosts.{alone, append_ok, append_inner_ok, fewer, reference_ok, references_ok, pointing, wrap_struct, wrap_pointer, unwrap_pointer, tested, variable_takes_it, variable_within, knows_more, known_ghosts, around_behind, at_behind, AllNumbered, numbered_left, numbered_right, knows_ghosts, ghost_ok, inner_ghost_ok}
+use Rattle.typed_laws.proofs.Ghosts.{alone, append_ok, append_inner_ok, fewer, reference_ok, listed_ok, pointing, wrap_struct, wrap_pointer, unwrap_pointer, tested, variable_takes_it, variable_within, knows_more, known_ghosts, around_behind, at_behind, AllNumbered, numbered_left, numbered_right, knows_ghosts, ghost_ok, inner_ghost_ok}
 
 -- ---- assignments
 
@@ -159,7 +158,7 @@ around_behind_it o vs w (st.Declare p ty x y) = refl
 around_behind_it o vs w (st.Ghost p x) = around_behind o vs w x
 around_behind_it o vs w _ = refl
 
-at_behind_it : (o : Setting) (vs : List Variable) (b : Bool) (c : Context) (x : Stm) → behind (at o vs b c) x ≡ at o (known_behind_it vs x) b c
+at_behind_it : (o : Setting) (vs : List Variable) (b : Bool) (c : Context) (x : Stm) → following (at o vs b c) x ≡ at o (known_behind_it vs x) b c
 at_behind_it o vs b c (st.Declare p ty x y) = refl
 at_behind_it o vs b c (st.Ghost p x) = at_behind o vs b c x
 at_behind_it o vs b c _ = refl
@@ -173,7 +172,7 @@ knows_behind o vs m b c _ q h = m
 -- ---- statements within an atomic block
 
 mutual
-  inner_statement_ok : (o : Setting) (vs : List Variable) → Knows o vs → (w c : Context) → IsTrue (runs c.text) → (n : Before) (x : Stm) → IsTrue (form.in_statement x) → Quiet (Statement (at o vs true c) x ∷ pieces.in_statement (at o vs true c) x) → AllNumbered o (declared x)
+  inner_statement_ok : (o : Setting) (vs : List Variable) → Knows o vs → (w c : Context) → IsTrue (runs c.text) → (n : Counters) (x : Stm) → IsTrue (form.in_statement x) → Quiet (Statement (at o vs true c) x ∷ pieces.in_statement (at o vs true c) x) → AllNumbered o (declared x)
       → SitesOf o.program o.number n.sites (n.sites + (s.in_statement x).sites) → IsTrue (inner_row_ok o.program o.info o.number (inner_row (around o vs w) n x))
   inner_statement_ok o vs m w c rn n (st.Block p xs pe) f q h sites = inner_statements_ok o vs m w c rn n xs f (quiet_rest (Statement (at o vs true c) (st.Block p xs pe)) (pieces.in_statements (at o vs true c) xs) q) h sites
   inner_statement_ok o vs m w c rn n (st.Assign p x) f q h sites =
@@ -185,13 +184,13 @@ mutual
       inner_ghost_ok o vs m w (ghost c) refl n x f (quiet_rest (Statement (at o vs true c) (st.Ghost p x)) (GhostStatement (at o vs true (ghost c)) x ∷ pieces.in_ghost (at o vs true (ghost c)) x) q) h sites
   inner_statement_ok o vs m w c rn n _ f q h sites = refl
 
-  inner_statements_ok : (o : Setting) (vs : List Variable) → Knows o vs → (w c : Context) → IsTrue (runs c.text) → (n : Before) (xs : Stms) → IsTrue (form.in_statements xs) → Quiet (pieces.in_statements (at o vs true c) xs) → AllNumbered o (all_declared xs)
+  inner_statements_ok : (o : Setting) (vs : List Variable) → Knows o vs → (w c : Context) → IsTrue (runs c.text) → (n : Counters) (xs : Stms) → IsTrue (form.in_statements xs) → Quiet (pieces.in_statements (at o vs true c) xs) → AllNumbered o (all_declared xs)
       → SitesOf o.program o.number n.sites (n.sites + (s.in_statements xs).sites) → IsTrue (inner_row_ok o.program o.info o.number (inner_rows (around o vs w) n xs))
   inner_statements_ok o vs m w c rn n st.Empty f q h sites = refl
   inner_statements_ok o vs m w c rn n (st.More x xs) f q h sites =
       let c2 = at o vs true c in
       let first = Statement c2 x ∷ pieces.in_statement c2 x in
-      let rest = pieces.in_statements (behind c2 x) xs in
+      let rest = pieces.in_statements (following c2 x) xs in
       let front = quiet_left first rest q in
       let one = inner_statement_ok o vs m w c rn n x (and_left (form.in_statement x) (form.in_statements xs) f) front (numbered_left o (declared x) (all_declared xs) h) (fewer o.program o.number _ _ _ _ sites (omega arith) (omega arith)) in
       let more = knows_behind o vs m true c x (quiet_rest (Statement c2 x) (pieces.in_statement c2 x) front) (numbered_left o (declared x) (all_declared xs) h) in
@@ -200,15 +199,10 @@ mutual
       append_inner_ok o (inner_row (around o vs w) n x) (inner_rows (known_behind (around o vs w) x) (plus n (s.in_statement x)) xs) one
       (subst (λ z. IsTrue (inner_row_ok o.program o.info o.number (inner_rows z (plus n (s.in_statement x)) xs))) (sym (around_behind_it o vs w x)) others)
 
--- what an atomic block lists
-listed_refs : (o : Setting) (a : Around) (xs : List Exp) → every (λ z. is_ref o.program o.info z.object) (map (listed a) xs) ≡ all_refs o.program o.info (codes a xs)
-listed_refs o a [] = refl
-listed_refs o a (x ∷ xs) = ap (λ z. is_ref o.program o.info (code a x) && z) (listed_refs o a xs)
-
 -- ---- statements
 
 mutual
-  statement_ok : (o : Setting) (vs : List Variable) → Knows o vs → (w c : Context) → IsTrue (runs c.text) → (n : Before) (x : Stm) → IsTrue (form.in_statement x) → Quiet (Statement (at o vs false c) x ∷ pieces.in_statement (at o vs false c) x) → AllNumbered o (declared x)
+  statement_ok : (o : Setting) (vs : List Variable) → Knows o vs → (w c : Context) → IsTrue (runs c.text) → (n : Counters) (x : Stm) → IsTrue (form.in_statement x) → Quiet (Statement (at o vs false c) x ∷ pieces.in_statement (at o vs false c) x) → AllNumbered o (declared x)
       → SitesOf o.program o.number n.sites (n.sites + (s.in_statement x).sites) → IsTrue (row_ok o.program o.info o.number (row (around o vs w) n x))
   statement_ok o vs m w c rn n (st.Block p xs pe) f q h sites = statements_ok o vs m w c rn n xs f (quiet_rest (Statement (at o vs false c) (st.Block p xs pe)) (pieces.in_statements (at o vs false c) xs) q) h sites
   statement_ok o vs m w c rn n (st.Skip p) f q h sites = refl
@@ -308,17 +302,17 @@ mutual
       let block = pieces.in_statements (at o vs true c) xs in
       let parts = quiet_rest piece (objects ++ block) q in
       let used = piece_converts piece (quiet_first piece (objects ++ block) q r.Conversion) in
-      let refs = references_ok o vs m w false (ghost c) refl es (and_left (all_code es) (form.in_statements xs) f) (quiet_left objects block parts) used in
+      let listed = listed_ok o vs m w false (ghost c) refl es (and_left (all_code es) (form.in_statements xs) f) (quiet_left objects block parts) used in
       let body = inner_statements_ok o vs m w c rn n xs (and_right (all_code es) (form.in_statements xs) f) (quiet_right objects block parts) h sites in
-      alone _ (and_both _ _ (listed_refs o (around o vs w) es ∙ refs) body)
+      alone _ (and_both _ _ listed body)
 
-  statements_ok : (o : Setting) (vs : List Variable) → Knows o vs → (w c : Context) → IsTrue (runs c.text) → (n : Before) (xs : Stms) → IsTrue (form.in_statements xs) → Quiet (pieces.in_statements (at o vs false c) xs) → AllNumbered o (all_declared xs)
+  statements_ok : (o : Setting) (vs : List Variable) → Knows o vs → (w c : Context) → IsTrue (runs c.text) → (n : Counters) (xs : Stms) → IsTrue (form.in_statements xs) → Quiet (pieces.in_statements (at o vs false c) xs) → AllNumbered o (all_declared xs)
       → SitesOf o.program o.number n.sites (n.sites + (s.in_statements xs).sites) → IsTrue (row_ok o.program o.info o.number (rows (around o vs w) n xs))
   statements_ok o vs m w c rn n st.Empty f q h sites = refl
   statements_ok o vs m w c rn n (st.More x xs) f q h sites =
       let c2 = at o vs false c in
       let first = Statement c2 x ∷ pieces.in_statement c2 x in
-      let rest = pieces.in_statements (behind c2 x) xs in
+      let rest = pieces.in_statements (following c2 x) xs in
       let front = quiet_left first rest q in
       let one = statement_ok o vs m w c rn n x (and_left (form.in_statement x) (form.in_statements xs) f) front (numbered_left o (declared x) (all_declared xs) h) (fewer o.program o.number _ _ _ _ sites (omega arith) (omega arith)) in
       let more = knows_behind o vs m false c x (quiet_rest (Statement c2 x) (pieces.in_statement c2 x) front) (numbered_left o (declared x) (all_declared xs) h) in
@@ -333,7 +327,7 @@ abbrev pub BodyLaw : Type 0
 BodyLaw =
     (items : List Item) (p : Program) (f : FunctionInfo) → Tables items p → FunctionsTyped items → (a : Around) → InCode items f a → Where (λ ty. Typed items (kind_of items ty)) a.context.value → f.value ≡ option_map (declared_type items) a.context.value
     → (c : Context) → c.scope ≡ a.context.scope → c.value ≡ a.context.value → IsTrue (runs c.text) → c.in_atomic ≡ false →
-    (k : ℕ) (n : Before) (ss : Stms) → IsTrue (form.in_statements ss) → Quiet (pieces.in_statements c ss) → ((v : Variable) → Contains (all_declared ss) v → Numbered items f a.names v) → SitesOf p k n.sites (n.sites + (s.in_statements ss).sites) → IsTrue (row_ok p f k (rows a n ss))
+    (k : ℕ) (n : Counters) (ss : Stms) → IsTrue (form.in_statements ss) → Quiet (pieces.in_statements c ss) → ((v : Variable) → Contains (all_declared ss) v → Numbered items f a.names v) → SitesOf p k n.sites (n.sites + (s.in_statements ss).sites) → IsTrue (row_ok p f k (rows a n ss))
 
 pub body_law : CodeLaw → BodyLaw
 body_law law items p f tables functions_typed a around_it value_typed value_is c scope_is same_value rn outside k n ss ok q h sites =

@@ -4,23 +4,25 @@ use Rattle.std.proofs.Common.{◌≡◌, refl, sym, ap, subst, arith, ◌∙◌,
 use Rattle.std.proofs.lemmas.Bool.{true≢false}
 use Rattle.std.proofs.lemmas.List.Elements.{Contains-append_right}
 use Rattle.std.proofs.lemmas.Option.{same_Some}
+use Rattle.int_ranges.specs.declared.ctype.CType.{CType}
 use Rattle.int_ranges.specs.declared.ctype.CType.TheVariants as ints
 use Rattle.c_syntax.specs.Expressions as e
 use Rattle.c_syntax.specs.Expressions.{Id, Ty, Exp, CallTree}
 use Rattle.c_syntax.specs.Items.{Param, FunctionTree, Item}
-use Rattle.c_types.specs.Declarations.{same_name, functions, find_function}
-use Rattle.c_types.specs.Contexts.{Context, Variable, ghost}
-use Rattle.c_types.specs.Types as kd
-use Rattle.c_types.specs.Types.{Kind, kind_of, kind, converts}
-use Rattle.c_types.specs.Values.{value_kind, call_kind}
-use Rattle.c_types.specs.Rules as r
-use Rattle.c_types.specs.Pieces as pieces
-use Rattle.c_types.specs.Pieces.{Piece, expression, expressions}
-use Rattle.c_types.specs.Places.{fail_together}
-use Rattle.c_types.specs.Conversions.{paired, call_uses, counts_match, count_fault}
-use Rattle.c_types.specs.TypeLaws.{Where, Typed, Quiet}
+use Rattle.typing_spec.specs.Declarations.{same_name, functions, find_function}
+use Rattle.typing_spec.specs.Contexts.{Context, Variable, ghost}
+use Rattle.typing_spec.specs.Types as kd
+use Rattle.typing_spec.specs.Types.{Kind, kind_of, kind, converts}
+use Rattle.typing_spec.specs.Values.{value_kind, call_kind}
+use Rattle.typing_spec.specs.Rules as r
+use Rattle.typing_spec.specs.Pieces as pieces
+use Rattle.typing_spec.specs.Pieces.{Piece, expression, expressions}
+use Rattle.typing_spec.specs.Places.{fail_together}
+use Rattle.typing_spec.specs.Conversions.{paired, call_uses, counts_match, count_fault}
+use Rattle.typing_spec.specs.TypeLaws.{Where, Typed, Quiet}
+use Rattle.method.specs.declared.program.DeclaredType.{DeclaredType}
 use Rattle.method.specs.declared.program.DeclaredType.TheVariants as d
-use Rattle.method.specs.Typing.{Refs, all_of, declared, fits, and_then}
+use Rattle.method.specs.Typing.{Values, Refs, all_of, declared, fits, and_then, only_if}
 use Rattle.typed_program.specs.Trees.{Code}
 use Rattle.typed_program.specs.Numbers.{declared_type, function_number, struct_number}
 use Rattle.typed_program.specs.Codes.{is_integer, conversion, stored}
@@ -31,11 +33,11 @@ use Rattle.tree_forms.specs.InForm as form
 use Rattle.tree_forms.specs.InForm.{is_code, all_code}
 use Rattle.typed_laws.proofs.Basics.{and_both, and_left, and_right, from_not}
 use Rattle.typed_laws.proofs.Quiet.{quiet_left, quiet_right, quiet_first, quiet_rest, not_placed}
-use Rattle.typed_laws.proofs.Tests.{test, converted_values, has_type, args_fit, call_ok, result_values}
+use Rattle.typed_laws.proofs.Tests.{test, converted_values, convertible, has_type, args_fit, call_ok, result_values}
 use Rattle.typed_laws.proofs.Facts.{Agrees, FunctionAt, runs}
-use Rattle.typed_laws.proofs.Found.{number_by_name, all_within}
+use Rattle.typed_laws.proofs.Found.{number_by_name, all_within, fits_within}
 use Rattle.typed_laws.proofs.BodyParts.{given, found, equal_numbers, numbers_equal, Converts, piece_converts, converts_left, converts_right, together}
-use Rattle.typed_laws.proofs.Sides.{Setting, here, around, at, Knows, valued, fits_within, converted_within, pointed, Refers, stores}
+use Rattle.typed_laws.proofs.Sides.{Setting, here, around, at, Knows, valued, converted_within, pointed, Refers, stores}
 use Rattle.typed_laws.proofs.BodyRights.{fit_reference}
 
 -- ---- arguments
@@ -137,12 +139,31 @@ typed_fits items (e.Pointer y) j ty i h g n = let a = refers_agree items (e.Poin
 typed_fits items e.Object j ty i h g n = let a = refers_agree items e.Object j tt h in fit_reference items ty j i ints.Int (declared d.Object) a.0 g n a.1
 typed_fits items e.Claim j ty i h g n = let a = refers_agree items e.Claim j tt h in fit_reference items ty j i ints.Int (declared d.Claim) a.0 g n a.1
 
+-- a value of the type, converted
+abbrev given_as : Option CType → DeclaredType → Option Values
+given_as c ty = only_if (convertible c (declared ty)) (converted_values c (declared ty))
+
+ints_convertible : (o : Option CType) (c : CType) → convertible o (all_of c) ≡ true
+ints_convertible None c = refl
+ints_convertible (Some d) c = refl
+
+-- only integers are converted
+convertible_between : (items : List Item) (from ty : Ty) → convertible (conversion_between (Some from) ty) (declared (declared_type items from)) ≡ true
+convertible_between items (e.Integer a) (e.Integer b) = ints_convertible (conversion a b) a
+convertible_between items (e.Integer a) (e.Pointer y) = refl
+convertible_between items (e.Integer a) e.Object = refl
+convertible_between items (e.Integer a) e.Claim = refl
+convertible_between items (e.Pointer y) ty = refl
+convertible_between items e.Object ty = refl
+convertible_between items e.Claim ty = refl
+
 value_fits : (items : List Item) (value : Option Ty) (ty : Ty) (i : Kind) → Where (λ z. Typed items (kind_of items z)) value → kind_of items ty ≡ Some i → fail_together converts (value_kind items value) (Some i) ≡ false
-    → IsTrue (test (and_then (option_map (declared_type items) value) (λ z. Some (converted_values (conversion_between value ty) (declared z)))) (λ v. fits v (declared_type items ty)))
+    → IsTrue (test (and_then (option_map (declared_type items) value) (given_as (conversion_between value ty))) (λ v. fits v (declared_type items ty)))
 value_fits items None ty i k h j = absurd (true≢false j)
 value_fits items (Some from) ty i k h j =
     let l = kind_known items from k in
-    typed_fits items from l.0 ty i l.1 h (together converts (kind_of items from) (Some i) l.0 i l.1 refl j)
+    subst (λ b. IsTrue (test (only_if b (converted_values (conversion_between (Some from) ty) (declared (declared_type items from)))) (λ v. fits v (declared_type items ty)))) (sym (convertible_between items from ty))
+    (typed_fits items from l.0 ty i l.1 h (together converts (kind_of items from) (Some i) l.0 i l.1 refl j))
 
 -- what a call gives fits a type that it converts to
 pub result_fits : (o : Setting) (vs : List Variable) (w : Context) (x : CallTree) → CallMade o vs w x → (ty : Ty) (i : Kind) → kind_of o.items ty ≡ Some i → fail_together converts (call_kind (here o vs) x) (Some i) ≡ false
@@ -151,6 +172,6 @@ result_fits o vs w x m ty i h j =
     let gives : call_kind (here o vs) x ≡ value_kind o.items m.tree.value = ap (option_and_then (λ f. value_kind o.items f.value)) m.is_found in
     let of_call : value_of_call (around o vs w) x ≡ m.tree.value = ap (option_and_then (λ f. f.value)) m.is_found in
     subst (λ z. IsTrue (test (result_values o.program o.info z (conversion_between (value_of_call (around o vs w) x) ty)) (λ v. fits v (declared_type o.items ty)))) (sym m.entry.is)
-    (subst (λ z. IsTrue (test (and_then z (λ g. Some (converted_values (conversion_between (value_of_call (around o vs w) x) ty) (declared g)))) (λ v. fits v (declared_type o.items ty)))) (sym m.entry.value)
-    (subst (λ z. IsTrue (test (and_then (option_map (declared_type o.items) m.tree.value) (λ g. Some (converted_values (conversion_between z ty) (declared g)))) (λ v. fits v (declared_type o.items ty)))) (sym of_call)
+    (subst (λ z. IsTrue (test (and_then z (given_as (conversion_between (value_of_call (around o vs w) x) ty))) (λ v. fits v (declared_type o.items ty)))) (sym m.entry.value)
+    (subst (λ z. IsTrue (test (and_then (option_map (declared_type o.items) m.tree.value) (given_as (conversion_between z ty))) (λ v. fits v (declared_type o.items ty)))) (sym of_call)
     (value_fits o.items m.tree.value ty i (o.functions_typed.values_typed m.tree m.in_items) h (subst (λ z. fail_together converts z (Some i) ≡ false) gives j))))

@@ -12,21 +12,21 @@ use Rattle.c_syntax.specs.declared.tree.BinaryOperator.TheVariants as op
 use Rattle.c_syntax.specs.Expressions as e
 use Rattle.c_syntax.specs.Expressions.{Id, Ty, Exp, Inter, Comparison, Rhs, Effect}
 use Rattle.c_syntax.specs.Items.{FieldTree, StructTree, Item}
-use Rattle.c_types.specs.Declarations.{same_name, structs, find_struct}
-use Rattle.c_types.specs.Contexts.{Context, Variable, deeper}
-use Rattle.c_types.specs.Types as kd
-use Rattle.c_types.specs.Types.{Kind, kind_of, kind, converts, left_fits, right_fits, together_fit, comparable}
-use Rattle.c_types.specs.First.{places}
-use Rattle.c_types.specs.Values.{field_named, interlocked_kind, struct_pointer, malloc_kind, right_kind}
-use Rattle.c_types.specs.Rules as r
-use Rattle.c_types.specs.Pieces as pieces
-use Rattle.c_types.specs.Pieces.{Piece, StructName, Allocation, expression, expressions}
-use Rattle.c_types.specs.Places.{fails, fail_together}
-use Rattle.c_types.specs.Operands.{misfit}
-use Rattle.c_types.specs.Conversions.{to}
-use Rattle.c_types.specs.Atomic.{others, is_integer_type, is_exchangeable}
-use Rattle.c_types.specs.GhostCode.{field_is}
-use Rattle.c_types.specs.TypeLaws.{Quiet}
+use Rattle.typing_spec.specs.Declarations.{same_name, structs, find_struct}
+use Rattle.typing_spec.specs.Contexts.{Context, Variable, deeper}
+use Rattle.typing_spec.specs.Types as kd
+use Rattle.typing_spec.specs.Types.{Kind, kind_of, kind, converts, left_fits, right_fits, together_fit, comparable}
+use Rattle.typing_spec.specs.First.{places}
+use Rattle.typing_spec.specs.Values.{field_named, interlocked_kind, struct_pointer, malloc_kind, right_kind}
+use Rattle.typing_spec.specs.Rules as r
+use Rattle.typing_spec.specs.Pieces as pieces
+use Rattle.typing_spec.specs.Pieces.{Piece, StructName, Allocation, expression, expressions}
+use Rattle.typing_spec.specs.Places.{fails, fail_together}
+use Rattle.typing_spec.specs.Operands.{misfit}
+use Rattle.typing_spec.specs.Conversions.{to}
+use Rattle.typing_spec.specs.Atomic.{others, is_integer_type, is_exchangeable}
+use Rattle.typing_spec.specs.GhostCode.{field_is}
+use Rattle.typing_spec.specs.TypeLaws.{Quiet}
 use Rattle.method.specs.declared.program.Operator.{Operator}
 use Rattle.method.specs.declared.program.Operator.TheVariants as operators
 use Rattle.method.specs.declared.program.DeclaredType.TheVariants as d
@@ -43,9 +43,9 @@ use Rattle.typed_laws.proofs.Basics.{and_both, and_left, and_right, from_not, ne
 use Rattle.typed_laws.proofs.Quiet.{quiet_left, quiet_right, quiet_first, quiet_rest, not_placed}
 use Rattle.typed_laws.proofs.Tests.{values, test, struct_test, is_struct, converted_values, has_type, right_values, operands_fit, afterwards_values, interlocked_values, is_pointer}
 use Rattle.typed_laws.proofs.Facts.{Within, Agrees, runs}
-use Rattle.typed_laws.proofs.Found.{number_by_name, all_within, within_ints}
+use Rattle.typed_laws.proofs.Found.{number_by_name, all_within, within_ints, fits_within, arithmetic_values}
 use Rattle.typed_laws.proofs.BodyParts.{given, found, numbers_equal, Converts, piece_converts, together, passes}
-use Rattle.typed_laws.proofs.Sides.{Named, Setting, here, around, at, Knows, Valued, valued, test_some, fits_within, converted_within, in_type, from_integer, refers_fit, store, stores, Placed, field_of_object, declared_field}
+use Rattle.typed_laws.proofs.Sides.{Named, Setting, here, around, at, Knows, Valued, valued, test_some, converted_within, in_type, from_integer, refers_fit, store, stores, Placed, field_of_object, declared_field}
 
 -- ---- references
 
@@ -310,11 +310,8 @@ one_operand o = record { is = refl; all = Ints (pos 1) (pos 1); has = refl; insi
 arithmetic_has : (o : Setting) (a : Operator) (x y : Operand) → IntOperand o x → IntOperand o y → values o.program o.info (code_binary (Computes a) x y) ≡ Some (all_of (common x y))
 arithmetic_has o a x y h j =
     let c = common x y in
-    let u = converted_values (conversion x.ty c) h.all in
-    let v = converted_values (conversion y.ty c) j.all in
-    ap (λ z. and_then z (λ a. and_then (values o.program o.info (in_type_of c y)) (λ b. only_if (are_ints a && are_ints b) (all_of c)))) (in_type o.program o.info c x h.all h.is h.has h.inside)
-    ∙ ap (λ z. and_then z (λ b. only_if (are_ints u && are_ints b) (all_of c))) (in_type o.program o.info c y j.all j.is j.has j.inside)
-    ∙ ap (λ z. only_if z (all_of c)) (and_both (are_ints u) (are_ints v) (within_ints c u (converted_within x.ty c h.all h.inside)) (within_ints c v (converted_within y.ty c j.all j.inside)))
+    arithmetic_values o.program o.info a (in_type_of c x) (in_type_of c y) c (converted_values (conversion x.ty c) h.all) (converted_values (conversion y.ty c) j.all) (in_type o.program o.info c x h.all h.is h.has h.inside) (in_type o.program o.info c y j.all j.is j.has j.inside)
+    (converted_within x.ty c h.all h.inside) (converted_within y.ty c j.all j.inside)
 
 updated_ok : (o : Setting) (vs : List Variable) (w : Context) (b : Bool) (a : Operator) (x : Exp) (y : Operand) → Placed o vs w x → IntOperand o (operand_of (here o vs) x (code (around o vs w) x)) → IntOperand o y → fails kd.is_integer (kind (here o vs) x) ≡ false
     → IsTrue (test (right_values o.program o.info o.number b (updated (around o vs w) a x y)) (λ v. fits v (declared_type o.items (left_type (here o vs) x))))

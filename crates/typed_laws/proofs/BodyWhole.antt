@@ -5,10 +5,10 @@ use Rattle.std.proofs.lemmas.List.Elements.{Contains-append_right}
 use Rattle.c_syntax.specs.declared.token.Span.{Span}
 use Rattle.c_syntax.specs.Items as i
 use Rattle.c_syntax.specs.Items.{Param, FunctionTree, Item}
-use Rattle.c_types.specs.Contexts as texts
-use Rattle.c_types.specs.Contexts.{Text, Context, Variable}
-use Rattle.c_types.specs.Pieces.{in_function, with_params, nowhere}
-use Rattle.c_types.specs.First.{IsWellTyped}
+use Rattle.typing_spec.specs.Contexts as texts
+use Rattle.typing_spec.specs.Contexts.{Text, Context, Variable}
+use Rattle.typing_spec.specs.Pieces.{in_function, with_params, nowhere}
+use Rattle.typing_spec.specs.First.{IsWellTyped}
 use Rattle.object_types.specs.Sets.{every}
 use Rattle.typed_program.specs.Trees as t
 use Rattle.typed_program.specs.Trees.{FunctionInfo, Program, Shape}
@@ -38,7 +38,7 @@ action_same p f n l s _ = refl
 mutual
   statement_same : (p : Program) (f : FunctionInfo) (n : ℕ) (l : List Shape) (s : Sorts) (x : t.Stmt) → stmt_ok p f n (numbered_statement l s x) ≡ stmt_ok p f n x
   statement_same p f n l s (t.Do line x) = action_same p f n l s x
-  statement_same p f n l s (t.If line x a b) = ap (λ z. is_test p f x && (z && row_ok p f n (numbered_row l s b))) (row_same p f n l s a) ∙ ap (λ z. is_test p f x && (row_ok p f n a && z)) (row_same p f n l s b)
+  statement_same p f n l s (t.If line in_ghost x a b) = ap (λ z. is_test p f x && (z && row_ok p f n (numbered_row l s b))) (row_same p f n l s a) ∙ ap (λ z. is_test p f x && (row_ok p f n a && z)) (row_same p f n l s b)
   statement_same p f n l s (t.While line is x a) = ap (λ z. is_test p f x && z) (row_same p f n l s a)
   statement_same p f n l s (t.DoWhile line is a tested x) = ap (λ z. is_test p f x && z) (row_same p f n l s a)
   statement_same p f n l s (t.Unwrapping line ty q x a) = ap (λ z. is_struct p ty && (is_pointer p f (λ m. m == ty) x && z)) (row_same p f n l s a)

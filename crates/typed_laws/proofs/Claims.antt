@@ -1,5 +1,5 @@
 -- The claim sites of a program that breaks no rule are well formed.
-use Rattle.std.specs.Prelude.{ℕ, cond, unwrap_or, nat_lt, Bool, true, false, not, ◌&&◌, ◌||◌, List, [], ◌∷◌, ◌++◌, length, map, flat_map, Some, None, Contains, find, slice_get, is_some, bytes_eq, IsTrue}
+use Rattle.std.specs.Prelude.{ℕ, zero, suc, cond, Option, option_and_then, unwrap_or, nat_lt, Bool, true, false, not, ◌&&◌, ◌||◌, List, [], ◌∷◌, ◌++◌, length, map, flat_map, Some, None, Contains, find, slice_get, is_some, bytes_eq, IsTrue}
 use Rattle.std.specs.List.{list_any}
 use Rattle.std.proofs.Common.{◌≡◌, refl, sym, ap, subst, ◌∙◌, inl, inr, arith}
 use Rattle.std.proofs.lemmas.Bool.{true≢false, lt-ltb, eq-eqb}
@@ -14,44 +14,52 @@ use Rattle.c_syntax.specs.Grammar.{first_place}
 use Rattle.c_syntax.specs.Items as i
 use Rattle.c_syntax.specs.Items.{FunctionTree, Item}
 use Rattle.object_types.specs.Sets.{every}
+use Rattle.method.specs.declared.program.DeclaredType.{DeclaredType}
 use Rattle.method.specs.declared.program.DeclaredType.TheVariants as d
-use Rattle.method.specs.Typing.{Values, fits, hole_named, is_named}
-use Rattle.c_types.specs.Declarations.{same_name, functions}
-use Rattle.c_types.specs.Contexts as texts
-use Rattle.c_types.specs.Contexts.{Text, Scope, Variable, Context}
-use Rattle.c_types.specs.Types as kinds
-use Rattle.c_types.specs.Types.{Kind, converts, kind, find_variable, type_of_name}
-use Rattle.c_types.specs.Trees.{bare, mentions}
-use Rattle.c_types.specs.Places.{place_if, fails, fail_together}
-use Rattle.c_types.specs.Rules as r
-use Rattle.c_types.specs.Rules.{Rule}
-use Rattle.c_types.specs.Conversions.{as_reference}
-use Rattle.c_types.specs.Ownership.{may_be_claimed}
-use Rattle.c_types.specs.Pieces as pieces
-use Rattle.c_types.specs.Pieces.{Piece, Program, Function, NewClaim, Expression, struct_name, if_some, types_of, clause, expression, expressions, claim_property, in_function, item}
-use Rattle.c_types.specs.First.{IsWellTyped}
-use Rattle.c_types.specs.TypeLaws.{IsKnown, Quiet}
+use Rattle.method.specs.declared.program.Sort.{Sort}
+use Rattle.method.specs.declared.program.Sort.TheVariants.{IntSort, RefSort}
+use Rattle.method.specs.declared.program.Hole.{Hole}
+use Rattle.method.specs.declared.program.Hole.TheVariants.{OfVariable, OfBound, OfMe, OfThis, OfResult}
+use Rattle.method.specs.Typing.{Values, fits, declared, are_ints, are_refs, hole_named, is_named}
+use Rattle.typing_spec.specs.Declarations.{same_name, functions}
+use Rattle.typing_spec.specs.Contexts as texts
+use Rattle.typing_spec.specs.Contexts.{Text, Scope, Variable, Context}
+use Rattle.typing_spec.specs.Types as kinds
+use Rattle.typing_spec.specs.Types.{Kind, converts, kind, kind_of, find_variable, find_own_field, variable_or_field, type_of_name}
+use Rattle.typing_spec.specs.Trees.{bare, mentions}
+use Rattle.typing_spec.specs.Places.{place_if, fails, fail_together}
+use Rattle.typing_spec.specs.Rules as r
+use Rattle.typing_spec.specs.Rules.{Rule}
+use Rattle.typing_spec.specs.Conversions.{as_reference}
+use Rattle.typing_spec.specs.Ownership.{may_be_claimed}
+use Rattle.typing_spec.specs.Pieces as pieces
+use Rattle.typing_spec.specs.Pieces.{Piece, Program, Function, NewClaim, Expression, struct_name, if_some, types_of, clause, expression, expressions, claim_property, in_function, item}
+use Rattle.typing_spec.specs.First.{IsWellTyped}
+use Rattle.typing_spec.specs.TypeLaws.{IsKnown, Quiet}
 use Rattle.typed_program.specs.Trees as t
-use Rattle.typed_program.specs.Trees.{Spec, Conjunct, Claimed, ClaimSite, FunctionInfo}
-use Rattle.typed_program.specs.Numbers.{Around, place_of, reference_type, struct_number}
+use Rattle.typed_program.specs.Trees.{Spec, Conjunct, Claimed, ClaimSite, VariableInfo, FunctionInfo, Shape}
+use Rattle.typed_program.specs.Numbers.{Around, place_of, reference_type, declared_type, struct_number}
 use Rattle.typed_program.specs.Codes.{code, integer_type}
 use Rattle.typed_program.specs.Annotations.{property}
 use Rattle.typed_program.specs.Variables.{parameter, variables, all_declared}
-use Rattle.typed_program.specs.Shapes.{holes, conjunct}
-use Rattle.typed_program.specs.Sites.{Site, Makes, named, type_of_claimed, claimed_bare, claimed, site, all_tell}
-use Rattle.typed_program.specs.Tables.{around_function, variable, function_sorts, clause_tells, claim_site, shapes, program}
+use Rattle.typed_program.specs.Shapes.{holes, conjunct, sort_of_type, same_sort}
+use Rattle.typed_program.specs.Sites.{Site, Makes, named, type_of_claimed, claimed_bare, claimed, site, all_occurrences}
+use Rattle.typed_program.specs.Tables.{around_function, variable, function_sorts, clause_occurrences, claim_site, shapes, program}
 use Rattle.tree_forms.specs.InForm as form
 use Rattle.tree_forms.specs.InForm.{is_code, all_code, is_spec, in_form, in_item}
-use Rattle.typed_laws.proofs.Basics.{and_both, from_not, never, contains_head, contains_tail, contains_cases, contains_none, contains_map, to_flat_map, every_map, every_member, every_of, own_name}
+use Rattle.typed_laws.specs.Fits as fitting
+use Rattle.typed_laws.specs.Fits.{of_function, hole_type, has_sort, variable_type, shape_fits, conjunct_fits}
+use Rattle.typed_laws.specs.Law.{AnnotationsLaw}
+use Rattle.typed_laws.proofs.Basics.{and_left, and_right, and_both, from_not, never, contains_head, contains_tail, contains_cases, contains_none, contains_map, to_flat_map, every_map, every_member, every_of, own_name}
 use Rattle.typed_laws.proofs.Quiet.{quiet_left, quiet_right, quiet_last, quiet_first, quiet_rest, quiet_part, not_placed, quiet_items}
-use Rattle.typed_laws.proofs.Tests.{claimed_ok, claimed_named, names_all, shape_ok, site_ok, values, test}
+use Rattle.typed_laws.proofs.Tests.{declared_as, type_of_variable, is_conjunct, hole_fits, holes_fit, claimed_ok, claimed_named, names_all, shape_ok, site_ok, values, test}
 use Rattle.typed_laws.proofs.Facts.{Tables, InCode, Numbered, Agrees, FunctionOf, runs}
 use Rattle.typed_laws.proofs.Goals.{TablesLaw, SitesLaw, CodeLaw, ClaimsLaw}
 use Rattle.typed_laws.proofs.Entry.{function_item}
 use Rattle.typed_laws.proofs.Conjuncts.{conjunct_passes, IsProperty, known_variable, property_passes, holes_named}
 use Rattle.typed_laws.proofs.SpecSites.{Made, all_made, made_in}
 use Rattle.typed_laws.proofs.SpecNamed.{place_named, named_below, in_names}
-use Rattle.typed_laws.proofs.SpecShapes.{told_shape, shape_passes}
+use Rattle.typed_laws.proofs.SpecShapes.{told_shape, reads_well, shape_passes}
 
 -- what stands at a function's beginning
 abbrev pub EntryLaw : Type 0
@@ -130,6 +138,65 @@ fits_claimed items kinds.Claim c v g h m = absurd (true≢false m)
 fits_claimed items kinds.OwnedSet c v g h m = absurd g
 fits_claimed items kinds.Void c v g h m = absurd g
 
+-- what is claimed is a reference
+claimed_refers : (a : Around) (o : Option Kind) → IsTrue (are_refs (declared (type_of_claimed a o)))
+claimed_refers a None = refl
+claimed_refers a (Some (kinds.Pointer s)) = refl
+claimed_refers a (Some kinds.Claim) = refl
+claimed_refers a (Some _) = refl
+
+-- a declared type that converts to `\object` is one of references
+type_refers : (items others : List Item) (ty : Ty) → fail_together converts (kind_of others ty) (Some kinds.Object) ≡ false → IsTrue (are_refs (declared (declared_type items ty)))
+type_refers items others (e.Integer c) h = absurd (true≢false h)
+type_refers items others (e.Pointer y) h = refl
+type_refers items others e.Object h = refl
+type_refers items others e.Claim h = refl
+
+abbrev of_sort : Sort → DeclaredType → Bool
+of_sort IntSort ty = are_ints (declared ty)
+of_sort RefSort ty = are_refs (declared ty)
+
+sorted : (ty : DeclaredType) (s : Sort) → IsTrue (same_sort (sort_of_type ty) s) → IsTrue (of_sort s ty)
+sorted (d.Integer c) IntSort h = refl
+sorted (d.Integer c) RefSort h = never h
+sorted (d.Pointer n) IntSort h = never h
+sorted (d.Pointer n) RefSort h = refl
+sorted d.Object IntSort h = never h
+sorted d.Object RefSort h = refl
+sorted d.Claim IntSort h = never h
+sorted d.Claim RefSort h = refl
+
+no_type : (j : ℕ) (s : Sort) → IsTrue (has_sort (slice_get [] j) s) → IsTrue false
+no_type zero s h = h
+no_type (suc j) s h = h
+
+-- holes that fit a shape's sorts in a function's text are of these sorts
+variable_sorted : (o : Option VariableInfo) (s : Sort) → IsTrue (has_sort (variable_type o) s) → IsTrue (of_sort s (declared_as o))
+variable_sorted None s k = never k
+variable_sorted (Some v) s k = sorted v.ty s k
+
+hole_fits_it : (f : FunctionInfo) (h : Hole) (s : Sort) → IsTrue (has_sort (hole_type (of_function f) h) s) → IsTrue (hole_fits f s h)
+hole_fits_it f (OfVariable j) IntSort k = variable_sorted (slice_get f.variables j) IntSort k
+hole_fits_it f (OfVariable j) RefSort k = variable_sorted (slice_get f.variables j) RefSort k
+hole_fits_it f (OfBound j) s k = never (no_type j s k)
+hole_fits_it f OfMe IntSort k = never k
+hole_fits_it f OfMe RefSort k = refl
+hole_fits_it f OfThis s k = never k
+hole_fits_it f OfResult s k = never k
+
+holes_fit_it : (f : FunctionInfo) (hs : List Hole) (ss : List Sort) → IsTrue (fitting.holes_fit (of_function f) hs ss) → IsTrue (holes_fit f ss hs)
+holes_fit_it f [] [] k = refl
+holes_fit_it f [] (s ∷ ss) k = never k
+holes_fit_it f (h ∷ hs) [] k = never k
+holes_fit_it f (h ∷ hs) (s ∷ ss) k =
+    let one = has_sort (hole_type (of_function f) h) s in
+    let more = fitting.holes_fit (of_function f) hs ss in
+    and_both (hole_fits f s h) (holes_fit f ss hs) (hole_fits_it f h s (and_left one more k)) (holes_fit_it f hs ss (and_right one more k))
+
+shape_stands : (f : FunctionInfo) (hs : List Hole) (o : Option Shape) → IsTrue (reads_well o) → IsTrue (shape_fits (of_function f) hs o) → IsTrue (shape_ok f hs o)
+shape_stands f hs None h k = never h
+shape_stands f hs (Some s) h k = and_both (is_conjunct s.conjunct) (holes_fit f s.holes hs) h (holes_fit_it f hs s.holes k)
+
 module _ (items : List Item) (p : t.Program) (f : FunctionInfo) (law : CodeLaw) (all : Tables items p) (a : Around) (here : InCode items f a) (c : Context) (same : c.scope ≡ a.context.scope) (in_ghost : c.text ≡ texts.GhostCode) where
   -- a name is that of a variable of the function
   name_known : (y : Id) → is_some (type_of_name c.scope y) ≡ true → (v : Variable) × (find_variable a.context.scope y ≡ Some v)
@@ -146,6 +213,14 @@ module _ (items : List Item) (p : t.Program) (f : FunctionInfo) (law : CodeLaw) 
       let below = slice_get_within f.variables (place_of (λ n. bytes_eq n v.name.name) a.names) (variable items v) r.0 in
       subst (λ m. IsTrue (nat_lt (place_of (λ n. bytes_eq n m) a.names) (length f.variables))) r.1 (lt-ltb (place_of (λ n. bytes_eq n v.name.name) a.names) (length f.variables) below)
 
+  -- a variable that converts to `\object` is of a type of references
+  variable_refers : (y : Id) (v : Variable) → find_variable a.context.scope y ≡ Some v → fail_together converts (kind c.scope (e.Name y)) (Some kinds.Object) ≡ false → IsTrue (are_refs (declared (type_of_variable f (place_of (λ n. bytes_eq n y.name) a.names))))
+  variable_refers y v h k =
+      let r = found_variable y v h in
+      let kind_is : kind c.scope (e.Name y) ≡ kind_of a.context.scope.items v.ty = ap (λ u. kind u (e.Name y)) same ∙ ap (λ o. option_and_then (kind_of a.context.scope.items) (variable_or_field o (find_own_field a.context.scope y))) h in
+      let there : slice_get f.variables (place_of (λ n. bytes_eq n y.name) a.names) ≡ Some (variable items v) = subst (λ m. slice_get f.variables (place_of (λ n. bytes_eq n m) a.names) ≡ Some (variable items v)) r.1 r.0 in
+      subst (λ o. IsTrue (are_refs (declared (declared_as o)))) (sym there) (type_refers items a.context.scope.items v.ty (subst (λ o. fail_together converts o (Some kinds.Object) ≡ false) kind_is k))
+
   -- a claimed object that is neither a name nor `NULL` has its type
   other_ok : (z : Exp) → IsTrue (is_code z) → Quiet (expression c z) → fail_together converts (kind c.scope z) (Some kinds.Object) ≡ false → fails may_be_claimed (kind c.scope z) ≡ false → IsTrue (claimed_ok p f (t.ClaimedOther (code a z) (type_of_claimed a (kind a.context.scope z))))
   other_ok z h quiet k m =
@@ -154,12 +229,14 @@ module _ (items : List Item) (p : t.Program) (f : FunctionInfo) (law : CodeLaw) 
       let k2 : not (converts r.0 kinds.Object) ≡ false = subst (λ o. fail_together converts o (Some kinds.Object) ≡ false) kind_is k in
       let m2 : not (may_be_claimed r.0) ≡ false = subst (λ o. fails may_be_claimed o ≡ false) kind_is m in
       let fit : IsTrue (fits r.1 (reference_type a.context.scope.items r.0)) = subst (λ its. IsTrue (fits r.1 (reference_type its r.0))) (sym here.items_are) (fits_claimed items r.0 (integer_type a.context.scope z) r.1 r.5 k2 m2) in
-      subst (λ o. IsTrue (test (values p f (code a z)) (λ v. fits v (type_of_claimed a o)))) (sym r.2) (subst (λ o. IsTrue (test o (λ v. fits v (type_of_claimed a (Some r.0))))) (sym r.4) fit)
+      and_both (test (values p f (code a z)) (λ v. fits v (type_of_claimed a (kind a.context.scope z)))) (are_refs (declared (type_of_claimed a (kind a.context.scope z))))
+      (subst (λ o. IsTrue (test (values p f (code a z)) (λ v. fits v (type_of_claimed a o)))) (sym r.2) (subst (λ o. IsTrue (test o (λ v. fits v (type_of_claimed a (Some r.0))))) (sym r.4) fit)) (claimed_refers a (kind a.context.scope z))
 
   object_ok : (z : Exp) → IsTrue (is_code z) → Quiet (expression c z) → fail_together converts (kind c.scope z) (Some kinds.Object) ≡ false → fails may_be_claimed (kind c.scope z) ≡ false → IsTrue (claimed_ok p f (claimed_bare a z))
   object_ok (e.Name y) h quiet k m =
       let v = name_known y (from_not (is_some (type_of_name c.scope y)) (not_placed _ y.place (quiet_last [] (Expression c (e.Name y)) quiet r.Undeclared))) in
-      number_below y v.0 v.1
+      let number = place_of (λ n. bytes_eq n y.name) a.names in
+      and_both (nat_lt number (length f.variables)) (are_refs (declared (type_of_variable f number))) (number_below y v.0 v.1) (variable_refers y v.0 v.1 k)
   object_ok (e.Null q) h quiet k m = refl
   object_ok z h quiet k m = other_ok z h quiet k m
 
@@ -173,7 +250,7 @@ quiet_body items quiet h c =
     let own = quiet_rest (Function items h) (if_some (struct_name items) h.value ++ (types_of items h.parameters ++ (types_of items h.ghost_parameters ++ (contract ++ body)))) (quiet_part (item items) items (i.Function h) all (function_item items h c)) in
     quiet_right contract body (quiet_right (types_of items h.ghost_parameters) (contract ++ body) (quiet_right (types_of items h.parameters) (types_of items h.ghost_parameters ++ (contract ++ body)) (quiet_right (if_some (struct_name items) h.value) (types_of items h.parameters ++ (types_of items h.ghost_parameters ++ (contract ++ body))) own)))
 
-module _ (items : List Item) (law : CodeLaw) (all : Tables items (program items)) (info : FunctionInfo) (h : FunctionTree) (vars_are : info.variables ≡ map (variable items) (variables h)) (k : ℕ) (x : Site) (m : Made items info (around_function items h).names k x (λ j. all_tell (around_function items h) j h.body.all)) where
+module _ (items : List Item) (law : CodeLaw) (all : Tables items (program items)) (info : FunctionInfo) (h : FunctionTree) (vars_are : info.variables ≡ map (variable items) (variables h)) (k : ℕ) (x : Site) (m : Made items info (around_function items h).names k x (λ j. all_occurrences (around_function items h) j h.body.all)) where
   said_pieces : Quiet (expressions m.context m.objects ++ expression (claim_property m.objects m.context) m.said)
   said_pieces = quiet_rest (NewClaim m.context m.objects m.said) (expressions m.context m.objects ++ expression (claim_property m.objects m.context) m.said) m.quiet
 
@@ -228,14 +305,15 @@ module _ (items : List Item) (law : CodeLaw) (all : Tables items (program items)
       (λ u v g i. variable_named u v g (any_head (mentions u) m.said m.objects i)) (quiet_right (expressions m.context m.objects) (expression (claim_property m.objects m.context) m.said) said_pieces)
 
   module _ (in_items : Contains (functions items) h) where
-    conjunct_placed : (w : Spec) → Contains (property m.around 0 m.said) w → IsTrue (shape_ok (slice_get (program items).shapes (conjunct (shapes items) (function_sorts items h) w).shape))
+    conjunct_placed : (w : Spec) → Contains (property m.around 0 m.said) w → IsTrue (reads_well (slice_get (program items).shapes (conjunct (shapes items) (function_sorts items h) w).shape))
     conjunct_placed w c =
         shape_passes items (function_sorts items h) (is_named (named 0 m.around.names (m.said ∷ m.objects))) w (every_member (conjunct_passes true (is_named (named 0 m.around.names (m.said ∷ m.objects)))) (property m.around 0 m.said) w conjuncts_pass c)
-        (told_shape items h in_items w (λ j. (site m.around j m.line m.objects m.said, Contains-append_right (flat_map (clause_tells (around_function items h)) h.contract) (all_tell (around_function items h) j h.body.all) (Makes (site m.around j m.line m.objects m.said)) (m.told j), c)))
+        (told_shape items h in_items w (λ j. (site m.around j m.line m.objects m.said, Contains-append_right (flat_map (clause_occurrences (around_function items h)) h.contract) (all_occurrences (around_function items h) j h.body.all) (Makes (site m.around j m.line m.objects m.said)) (m.told j), c)))
 
     -- the site that stands in the table
-    site_passes : IsTrue (site_ok (program items) (Some info) (claim_site (shapes items) (function_sorts items h) (site m.around k m.line m.objects m.said)))
-    site_passes =
+    site_passes : IsTrue (every (conjunct_fits (program items) (of_function info)) (map (conjunct (shapes items) (function_sorts items h)) (property m.around 0 m.said)))
+        → IsTrue (site_ok (program items) (Some info) (claim_site (shapes items) (function_sorts items h) (site m.around k m.line m.objects m.said)))
+    site_passes fit =
         let is = named 0 m.around.names (m.said ∷ m.objects) in
         let s = function_sorts items h in
         let l = shapes items in
@@ -243,18 +321,22 @@ module _ (items : List Item) (law : CodeLaw) (all : Tables items (program items)
         let objects_are = every_map (claimed_named is) (claimed m.around) m.objects (every_of (λ o. claimed_named is (claimed m.around o)) m.objects objects_named) in
         let holes_are = every_map (λ c. every (hole_named is) c.holes) (conjunct l s) stated (every_of (λ w. every (hole_named is) (holes w)) stated (λ w c. holes_named is w (every_member (conjunct_passes true (is_named is)) stated w conjuncts_pass c))) in
         let all_ok = every_map (claimed_ok (program items) info) (claimed m.around) m.objects (every_of (λ o. claimed_ok (program items) info (claimed m.around o)) m.objects objects_ok) in
-        let shapes_ok = every_map (λ c. shape_ok (slice_get (program items).shapes c.shape)) (conjunct l s) stated (every_of (λ w. shape_ok (slice_get (program items).shapes (conjunct l s w).shape)) stated conjunct_placed) in
-        four (names_all (claim_site l s (site m.around k m.line m.objects m.said))) (every (claimed_ok (program items) info) (map (claimed m.around) m.objects)) (every (λ j. nat_lt j (length info.variables)) is) (every (λ c. shape_ok (slice_get (program items).shapes c.shape)) (map (conjunct l s) stated))
+        let shapes_ok = every_map (λ c. shape_ok info c.holes (slice_get (program items).shapes c.shape)) (conjunct l s) stated
+        (every_of (λ w. shape_ok info (holes w) (slice_get (program items).shapes (conjunct l s w).shape)) stated
+        (λ w c. shape_stands info (holes w) (slice_get (program items).shapes (conjunct l s w).shape) (conjunct_placed w c) (every_member (conjunct_fits (program items) (of_function info)) (map (conjunct l s) stated) (conjunct l s w) fit (contains_map (conjunct l s) stated w c)))) in
+        four (names_all (claim_site l s (site m.around k m.line m.objects m.said))) (every (claimed_ok (program items) info) (map (claimed m.around) m.objects)) (every (λ j. nat_lt j (length info.variables)) is) (every (λ c. shape_ok info c.holes (slice_get (program items).shapes c.shape)) (map (conjunct l s) stated))
         (and_both (every (claimed_named is) (map (claimed m.around) m.objects)) (every (λ c. every (hole_named is) c.holes) (map (conjunct l s) stated)) objects_are holes_are) all_ok variables_below shapes_ok
 
-    made_passes : IsTrue (site_ok (program items) (Some info) (claim_site (shapes items) (function_sorts items h) x))
-    made_passes = subst (λ z. IsTrue (site_ok (program items) (Some info) (claim_site (shapes items) (function_sorts items h) z))) (sym m.is) site_passes
+    made_passes : IsTrue (every (conjunct_fits (program items) (of_function info)) (claim_site (shapes items) (function_sorts items h) x).conjuncts) → IsTrue (site_ok (program items) (Some info) (claim_site (shapes items) (function_sorts items h) x))
+    made_passes fit =
+        subst (λ z. IsTrue (site_ok (program items) (Some info) (claim_site (shapes items) (function_sorts items h) z))) (sym m.is)
+        (site_passes (subst (λ z. IsTrue (every (conjunct_fits (program items) (of_function info)) (claim_site (shapes items) (function_sorts items h) z).conjuncts)) m.is fit))
 
 -- ---- the table of claim sites
 
 -- claim sites of a program that breaks no rule are well formed
-pub claims_law : TablesLaw → SitesLaw → EntryLaw → CodeLaw → ClaimsLaw
-claims_law tables_law sites_law entry_law code_law items end formed typed n s at =
+pub claims_law : TablesLaw → SitesLaw → EntryLaw → CodeLaw → AnnotationsLaw → ClaimsLaw
+claims_law tables_law sites_law entry_law code_law annotations_law items end formed typed n s at =
     let of = sites_law items end typed n s at in
     let fo = of.function_of in
     let h = fo.tree in
@@ -264,6 +346,7 @@ claims_law tables_law sites_law entry_law code_law items end formed typed n s at
     let body_form : IsTrue (form.in_statements h.body.all) = every_member in_item items (i.Function h) formed (function_item items h fo.in_items) in
     let body_known = λ (v : Variable) (c : Contains (all_declared h.body.all) v).
     fo.numbered v (Contains-append_right (map (parameter false) h.parameters) (map (parameter true) h.ghost_parameters ++ all_declared h.body.all) v (Contains-append_right (map (parameter true) h.ghost_parameters) (all_declared h.body.all) v c)) in
-    let m = all_made items of.info a.names s.function of.made a (in_function items h) refl (entry_law items end typed s.function of.info fo) refl h.body.all body_form (quiet_body items quiet h fo.in_items) body_known (made_in of.made (all_tell a s.function h.body.all) of.told) in
-    let passing = made_passes items code_law (tables_law items end typed) of.info h vars_are s.function of.made m fo.in_items in
+    let m = all_made items of.info a.names s.function of.made a (in_function items h) refl (entry_law items end typed s.function of.info fo) refl h.body.all body_form (quiet_body items quiet h fo.in_items) body_known (made_in of.made (all_occurrences a s.function h.body.all) of.told) in
+    let fit = (annotations_law items end formed typed).sites n s of.info at of.at_number in
+    let passing = made_passes items code_law (tables_law items end typed) of.info h vars_are s.function of.made m fo.in_items (subst (λ z. IsTrue (every (conjunct_fits (program items) (of_function of.info)) z.conjuncts)) of.is fit) in
     subst (λ o. IsTrue (site_ok (program items) o s)) (sym of.at_number) (subst (λ z. IsTrue (site_ok (program items) (Some of.info) z)) (sym of.is) passing)

@@ -13,17 +13,17 @@ use Rattle.c_syntax.specs.declared.tree.BinaryOperator.TheVariants as op
 use Rattle.c_syntax.specs.Expressions as e
 use Rattle.c_syntax.specs.Expressions.{Id, Exp}
 use Rattle.c_syntax.specs.Items.{FieldTree, StructTree}
-use Rattle.c_types.specs.Declarations.{same_name, fields, find_field}
-use Rattle.c_types.specs.Contexts.{Context, Variable, deeper}
-use Rattle.c_types.specs.Types as types
-use Rattle.c_types.specs.Types.{Kind, is_integer, is_pointer, is_scalar, is_reference, kind_of, find_variable, find_own_field, variable_or_field, type_of_name, field_of, unary_fits, binary_fits, left_fits, right_fits, together_fit, branches, conditional_kind, kind}
-use Rattle.c_types.specs.TypeLaws.{Sound, Quiet}
-use Rattle.c_types.specs.Places.{fails}
-use Rattle.c_types.specs.Rules as r
-use Rattle.c_types.specs.Rules.{Rule}
-use Rattle.c_types.specs.Names.{may_have}
-use Rattle.c_types.specs.Operands.{misfit, branches_misfit}
-use Rattle.c_types.specs.Pieces.{Expression, operand, expression}
+use Rattle.typing_spec.specs.Declarations.{same_name, fields, find_field}
+use Rattle.typing_spec.specs.Contexts.{Context, Variable, deeper}
+use Rattle.typing_spec.specs.Types as types
+use Rattle.typing_spec.specs.Types.{Kind, is_integer, is_pointer, is_scalar, is_reference, kind_of, find_variable, find_own_field, variable_or_field, type_of_name, field_of, unary_fits, binary_fits, left_fits, right_fits, together_fit, branches, conditional_kind, kind}
+use Rattle.typing_spec.specs.TypeLaws.{Sound, Quiet}
+use Rattle.typing_spec.specs.Places.{fails}
+use Rattle.typing_spec.specs.Rules as r
+use Rattle.typing_spec.specs.Rules.{Rule}
+use Rattle.typing_spec.specs.Names.{may_have}
+use Rattle.typing_spec.specs.Operands.{misfit, branches_misfit}
+use Rattle.typing_spec.specs.Pieces.{Expression, operand, expression}
 use Rattle.method.specs.declared.program.DeclaredType.TheVariants.{Pointer, Object, Claim}
 use Rattle.method.specs.declared.program.Operator.{Operator}
 use Rattle.method.specs.declared.program.Operator.TheVariants as operators
@@ -43,7 +43,7 @@ use Rattle.typed_laws.proofs.Tests.{values, field_values}
 use Rattle.typed_laws.proofs.Order.{least_below, lesser_above, greater_below}
 use Rattle.typed_laws.proofs.Facts.{Tables, InCode, Within, Agrees}
 use Rattle.typed_laws.proofs.Goals.{CodeLaw}
-use Rattle.typed_laws.proofs.Found.{all_within, type_valued, widened, within_ints, struct_by_name}
+use Rattle.typed_laws.proofs.Found.{all_within, type_valued, widened, within_ints, arithmetic_values, struct_by_name}
 
 -- ---- the values of a kind
 
@@ -300,10 +300,8 @@ module _ (p : Program) (f : FunctionInfo) (a : Around) (tables : Tables a.contex
       let to : CType = usual_type (integer_type a.context.scope x) (integer_type a.context.scope y) in
       let u = operand_in x to w in
       let v = operand_in y to z in
-      let us = within_ints to u.values_are (as_int a.context.scope.items w.kind_is to u.values_are h u.agrees) in
-      let vs = within_ints to v.values_are (as_int a.context.scope.items z.kind_is to v.values_are g v.agrees) in
-      ap (λ i. and_then i (λ m. and_then (values p f (in_type_of to (operand_of a.context.scope y (code a y)))) (λ n. only_if (are_ints m && are_ints n) (all_of to)))) u.valued
-      ∙ ap (λ i. and_then i (λ n. only_if (are_ints u.values_are && are_ints n) (all_of to))) v.valued ∙ ap (λ b. only_if b (all_of to)) (and_both (are_ints u.values_are) (are_ints v.values_are) us vs)
+      arithmetic_values p f o (in_type_of to (operand_of a.context.scope x (code a x))) (in_type_of to (operand_of a.context.scope y (code a y))) to u.values_are v.values_are u.valued v.valued
+      (as_int a.context.scope.items w.kind_is to u.values_are h u.agrees) (as_int a.context.scope.items z.kind_is to v.values_are g v.agrees)
 
   arithmetic_valued : (q : Span) (o : BinaryOperator) (r : Operator) (x y : Exp) (w : IsValued x) (z : IsValued y) → codes.binary o ≡ codes.Computes r → left_fits o w.kind_is ≡ is_integer w.kind_is → right_fits o z.kind_is ≡ is_integer z.kind_is →
       misfit o (kind a.context.scope x) (kind a.context.scope y) ≡ false → IsValued (e.Binary q o x y)

@@ -5,12 +5,12 @@ use Rattle.c_syntax.specs.declared.token.Span.{Span}
 use Rattle.c_syntax.specs.Expressions.{Ty}
 use Rattle.c_syntax.specs.Items as i
 use Rattle.c_syntax.specs.Items.{Param, FunctionTree, FieldTree, Member, StructTree, Item}
-use Rattle.c_types.specs.Declarations.{structs, functions, fields}
-use Rattle.c_types.specs.Contexts.{Context, Variable}
-use Rattle.c_types.specs.Types.{kind_of}
-use Rattle.c_types.specs.TypeLaws.{Where, Typed, IsKnown, Quiet, type_typed}
-use Rattle.c_types.specs.Pieces.{Piece, Struct, Function, struct_name, if_some, nowhere, with_params, in_function, types_of, clause, in_statements, function, member, in_struct}
-use Rattle.c_types.specs.First.{IsWellTyped}
+use Rattle.typing_spec.specs.Declarations.{structs, functions, fields}
+use Rattle.typing_spec.specs.Contexts.{Context, Variable}
+use Rattle.typing_spec.specs.Types.{kind_of}
+use Rattle.typing_spec.specs.TypeLaws.{Where, Typed, IsKnown, Quiet, type_typed}
+use Rattle.typing_spec.specs.Pieces.{Piece, Struct, Function, struct_name, if_some, nowhere, with_params, in_function, types_of, clause, in_statements, function, member, in_struct}
+use Rattle.typing_spec.specs.First.{IsWellTyped}
 use Rattle.typed_program.specs.Trees.{FunctionInfo}
 use Rattle.typed_program.specs.Variables.{parameter, variables, all_declared}
 use Rattle.typed_program.specs.Tables.{around_function}
@@ -106,7 +106,7 @@ params_result b [] c = refl
 params_result b (x ∷ xs) c = params_result b xs (record c { scope = record c.scope { variables = parameter b x ∷ c.scope.variables } })
 
 -- a variable in scope is one of the parameters, or was in scope before
-params_in : (b : Bool) (ps : List Param) (c : Context) (v : Variable) → Contains (with_params b ps c).scope.variables v → ((x : Param) × Contains ps x × (parameter b x ≡ v)) ⊎ Contains c.scope.variables v
+pub params_in : (b : Bool) (ps : List Param) (c : Context) (v : Variable) → Contains (with_params b ps c).scope.variables v → ((x : Param) × Contains ps x × (parameter b x ≡ v)) ⊎ Contains c.scope.variables v
 params_in b [] c v d = inr d
 params_in b (x ∷ xs) c v d =
     elim (params_in b xs (record c { scope = record c.scope { variables = parameter b x ∷ c.scope.variables } }) v d) [
@@ -131,7 +131,7 @@ module _ (items : List Item) (end : Span) (typed : IsWellTyped items end) (h : F
             ]
       ]
 
-  items_are : (in_function items h).scope.items ≡ items
+  pub items_are : (in_function items h).scope.items ≡ items
   items_are = params_items true h.ghost_parameters (with_params false h.parameters (nowhere items)) ∙ params_items false h.parameters (nowhere items)
 
   no_this : (in_function items h).scope.this ≡ None

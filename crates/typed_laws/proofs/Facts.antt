@@ -1,22 +1,22 @@
 -- What the laws of expressions, statements and claims ask of a program's tables, and of what stands around a text.
-use Rattle.std.specs.Prelude.{◌≡◌, ℕ, ◌+◌, ◌≤◌, ◌<◌, Bool, true, false, ◌&&◌, int_le, List, length, map, Some, None, Contains, slice_get, IsTrue, bytes_eq, option_map}
+use Rattle.std.specs.Prelude.{◌≡◌, ℕ, zero, suc, ◌+◌, ◌≤◌, ◌<◌, Bool, true, false, ◌&&◌, int_le, List, [], ◌∷◌, length, map, Some, None, Contains, slice_get, IsTrue, bytes_eq, option_map}
 use Rattle.int_ranges.specs.declared.ctype.CType.{CType}
 use Rattle.int_ranges.specs.Ranges.{least_of, greatest_of}
 use Rattle.c_syntax.specs.Expressions.{Id}
 use Rattle.c_syntax.specs.Items.{FunctionTree, FieldTree, StructTree, Item}
-use Rattle.c_types.specs.Declarations.{structs, functions, find_function, find_field, has_dynamic_owns, has_volatile_owns}
-use Rattle.c_types.specs.Contexts as texts
-use Rattle.c_types.specs.Contexts.{Text, Context, Scope, Variable}
-use Rattle.c_types.specs.Types as k
-use Rattle.c_types.specs.Types.{Kind}
-use Rattle.c_types.specs.TypeLaws.{IsKnown}
+use Rattle.typing_spec.specs.Declarations.{structs, functions, find_function, find_field, has_dynamic_owns, has_volatile_owns}
+use Rattle.typing_spec.specs.Contexts as texts
+use Rattle.typing_spec.specs.Contexts.{Text, Context, Scope, Variable}
+use Rattle.typing_spec.specs.Types as k
+use Rattle.typing_spec.specs.Types.{Kind}
+use Rattle.typing_spec.specs.TypeLaws.{IsKnown}
 use Rattle.method.specs.declared.program.DeclaredType.TheVariants.{Pointer, Object, Claim}
 use Rattle.method.specs.Typing.{Values, Ints, Nulls, Refs}
 use Rattle.typed_program.specs.Trees.{StructInfo, FunctionInfo, ClaimSite, Program}
 use Rattle.typed_program.specs.Numbers.{Around, place_of, struct_number, function_number, field_number, declared_type}
 use Rattle.typed_program.specs.Variables.{variables}
-use Rattle.typed_program.specs.Statements.{Before, in_statements}
-use Rattle.typed_program.specs.Sites.{Site, all_tell}
+use Rattle.typed_program.specs.Statements.{Counters, in_statements}
+use Rattle.typed_program.specs.Sites.{Site, all_occurrences}
 use Rattle.typed_program.specs.Tables.{around_function, field, variable, struct, function, numbered_struct, numbered_function, function_sorts, sorts_of, sites_told, claim_site, shapes, program}
 use Rattle.typed_laws.proofs.Tests.{struct_of}
 
@@ -91,20 +91,36 @@ pub record StructOf (items : List Item) (info : StructInfo) : Type 0 where
   pub in_items : Contains (structs items) tree
   pub is : info ≡ numbered_struct (shapes items) (struct items formulas tree)
 
+-- how many claims the functions in front of one make
+abbrev pub claims_before : ℕ → List FunctionTree → ℕ
+claims_before zero hs = 0
+claims_before (suc k) [] = 0
+claims_before (suc k) (h ∷ hs) = (in_statements h.body.all).sites + claims_before k hs
+
+-- the claims that a function's body tells of, where the function has this number
+abbrev pub told_in : List Item → ℕ → FunctionTree → List Site
+told_in items k h = sites_told (all_occurrences (around_function items h) k h.body.all)
+
 -- the entry of the table of functions with number k is that of a function of the items, whose first numbers are these
 pub record FunctionOf (items : List Item) (k : ℕ) (info : FunctionInfo) : Type 0 where
   pub tree : FunctionTree
-  pub before : Before
+  pub before : Counters
   pub in_items : Contains (functions items) tree
   pub is : info ≡ numbered_function (shapes items) (sorts_of (function items before tree)) (function items before tree)
   pub sites : SitesOf (program items) k before.sites (before.sites + (in_statements tree.body.all).sites)
+  -- its claims stand in the table, in their order
+  pub told_sites : (j : ℕ) (x : Site) → slice_get (told_in items k tree) j ≡ Some x → slice_get (program items).sites (before.sites + j) ≡ Some (claim_site (shapes items) (function_sorts items tree) x)
+  pub first_site : before.sites ≡ claims_before k (functions items)
   pub numbered : (v : Variable) → Contains (variables tree) v → Numbered items info (map (λ w. w.name.name) (variables tree)) v
 
--- an entry of the table of claim sites is that of a claim which a function of the items makes
-pub record SiteOf (items : List Item) (site : ClaimSite) : Type 0 where
+-- the entry of the table of claim sites with number n is that of a claim which a function of the items makes
+pub record SiteOf (items : List Item) (n : ℕ) (site : ClaimSite) : Type 0 where
   pub info : FunctionInfo
   pub at_number : slice_get (program items).functions site.function ≡ Some info
   pub function_of : FunctionOf items site.function info
   pub made : Site
-  pub told : Contains (sites_told (all_tell (around_function items function_of.tree) site.function function_of.tree.body.all)) made
+  pub told : Contains (told_in items site.function function_of.tree) made
+  pub index : ℕ
+  pub at_index : slice_get (told_in items site.function function_of.tree) index ≡ Some made
+  pub number_is : n ≡ function_of.before.sites + index
   pub is : site ≡ claim_site (shapes items) (function_sorts items function_of.tree) made

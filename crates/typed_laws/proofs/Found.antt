@@ -1,21 +1,26 @@
 -- What is found by its name, and what a declared type's values are.
-use Rattle.std.proofs.Common.{◌≡◌, true, List, Option, Some, None, int_le, refl, sym, ap}
+use Rattle.std.proofs.Common.{◌≡◌, true, ◌&&◌, List, Option, Some, None, IsTrue, int_le, refl, sym, ap, ◌∙◌}
 use Rattle.std.specs.Option.{option_map}
 use Rattle.int_ranges.specs.declared.ctype.CType.{CType}
 use Rattle.int_ranges.specs.Ranges.{least_of, greatest_of}
 use Rattle.c_syntax.specs.Expressions as e
 use Rattle.c_syntax.specs.Expressions.{Id, Ty}
 use Rattle.c_syntax.specs.Items.{StructTree, Item}
-use Rattle.c_types.specs.Declarations.{same_name, structs, find_struct}
-use Rattle.c_types.specs.Types as types
-use Rattle.c_types.specs.Types.{Kind, kind_of}
-use Rattle.c_types.specs.TypeLaws.{Sound, Typed}
-use Rattle.method.specs.declared.program.DeclaredType.TheVariants.{Pointer}
-use Rattle.method.specs.Typing.{Refs, all_of, declared, Values, Ints, Nulls, are_ints}
+use Rattle.typing_spec.specs.Declarations.{same_name, structs, find_struct}
+use Rattle.typing_spec.specs.Types as types
+use Rattle.typing_spec.specs.Types.{Kind, kind_of}
+use Rattle.typing_spec.specs.TypeLaws.{Sound, Typed}
+use Rattle.method.specs.declared.program.DeclaredType.TheVariants.{Integer, Pointer}
+use Rattle.method.specs.declared.program.Operator.{Operator}
+use Rattle.method.specs.declared.program.Operator.TheVariants as operators
+use Rattle.method.specs.Typing.{Refs, all_of, declared, Values, Ints, Nulls, are_ints, fits, left_fits, and_then, only_if}
+use Rattle.typed_program.specs.Trees as t
+use Rattle.typed_program.specs.Trees.{Code, FunctionInfo, Program}
 use Rattle.typed_program.specs.Numbers.{struct_number, declared_type}
 use Rattle.typed_program.specs.Codes.{integer_of, holds_all}
 use Rattle.typed_laws.proofs.Basics.{and_both, same_bytes, find_passes, and_left, and_right}
 use Rattle.typed_laws.proofs.Order.{same_order, chain}
+use Rattle.typed_laws.proofs.Tests.{values}
 use Rattle.typed_laws.proofs.Facts.{Within, Agrees}
 
 -- a struct's number goes by the bytes of its name
@@ -44,6 +49,24 @@ pub within_ints : (c : CType) (v : Values) → Within c v → are_ints v ≡ tru
 within_ints c (Ints l h) w = refl
 within_ints c Nulls w = absurd w
 within_ints c (Refs ty) w = absurd w
+
+pub fits_within : (c : CType) (v : Values) → Within c v → IsTrue (fits v (Integer c))
+fits_within c (Ints low high) h = h
+fits_within c Nulls h = absurd h
+fits_within c (Refs ty) h = absurd h
+
+left_within : (o : Operator) (c : CType) (v : Values) → Within c v → IsTrue (left_fits o v c)
+left_within operators.Plus c v h = refl
+left_within operators.Minus c v h = refl
+left_within operators.Times c v h = refl
+left_within operators.Over c v h = refl
+left_within operators.Modulo c v h = fits_within c v h
+
+-- arithmetic on two integers of its type
+pub arithmetic_values : (p : Program) (f : FunctionInfo) (o : Operator) (x y : Code) (c : CType) (v w : Values) → values p f x ≡ Some v → values p f y ≡ Some w → Within c v → Within c w → values p f (t.Arithmetic o x y c) ≡ Some (all_of c)
+arithmetic_values p f o x y c v w h g a b =
+    ap (λ i. and_then i (λ m. and_then (values p f y) (λ n. only_if ((are_ints m && are_ints n) && left_fits o m c) (all_of c)))) h ∙ ap (λ i. and_then i (λ n. only_if ((are_ints v && are_ints n) && left_fits o v c) (all_of c))) g
+    ∙ ap (λ z. only_if z (all_of c)) (and_both (are_ints v && are_ints w) (left_fits o v c) (and_both (are_ints v) (are_ints w) (within_ints c v a) (within_ints c w b)) (left_within o c v a))
 
 -- the kind of a declared type, and the values of it
 pub record Valued (items : List Item) (ty : Ty) : Type 0 where

@@ -11,18 +11,19 @@ use Rattle.c_syntax.specs.Grammar.{first_place}
 use Rattle.c_syntax.specs.Ghosts as g
 use Rattle.c_syntax.specs.Ghosts.{Members, OwnsEffect, GhostRhs, GStm, GStms}
 use Rattle.c_syntax.specs.Items.{StructTree}
-use Rattle.c_types.specs.Declarations.{structs, has_dynamic_owns, has_volatile_owns}
-use Rattle.c_types.specs.Contexts.{Context, Variable, deeper}
-use Rattle.c_types.specs.Types as kd
-use Rattle.c_types.specs.Types.{Kind, kind_of, kind, converts}
-use Rattle.c_types.specs.Values.{ghost_right_kind}
-use Rattle.c_types.specs.Rules as r
-use Rattle.c_types.specs.Pieces as pieces
-use Rattle.c_types.specs.Pieces.{Piece, GhostStatement, Expression, expression, expressions, struct_name, behind_ghost}
-use Rattle.c_types.specs.Places.{fails, fail_together}
-use Rattle.c_types.specs.Conversions.{as_reference, member_uses, owns_uses}
-use Rattle.c_types.specs.Ownership.{takes_change, may_change}
-use Rattle.c_types.specs.TypeLaws.{Sound, Typed, Quiet, type_typed, one_known}
+use Rattle.typing_spec.specs.Declarations.{structs, has_dynamic_owns, has_volatile_owns}
+use Rattle.typing_spec.specs.Contexts.{Context, Variable, deeper}
+use Rattle.typing_spec.specs.Types as kd
+use Rattle.typing_spec.specs.Types.{Kind, kind_of, kind, converts}
+use Rattle.typing_spec.specs.Values.{ghost_right_kind}
+use Rattle.typing_spec.specs.Rules as r
+use Rattle.typing_spec.specs.Pieces as pieces
+use Rattle.typing_spec.specs.Pieces.{Piece, GhostStatement, Expression, expression, expressions, struct_name, behind_ghost}
+use Rattle.typing_spec.specs.Places.{fails, fail_together}
+use Rattle.typing_spec.specs.Conversions.{as_reference, member_uses, owns_uses}
+use Rattle.typing_spec.specs.Ownership.{takes_change, may_change}
+use Rattle.typing_spec.specs.TypeLaws.{Sound, Typed, Quiet, type_typed, one_known}
+use Rattle.object_types.specs.Sets.{every}
 use Rattle.method.specs.declared.program.DeclaredType.TheVariants as d
 use Rattle.method.specs.declared.program.OwnsChange.TheVariants as changes
 use Rattle.method.specs.Typing.{Values, Refs, fits, are_refs, point_to, and_then, only_if}
@@ -32,7 +33,7 @@ use Rattle.typed_program.specs.Numbers.{struct_number, struct_at, struct_of_kind
 use Rattle.typed_program.specs.Codes.{code, codes, integer_type}
 use Rattle.typed_program.specs.Variables.{ghost_declared, ghosts_declared}
 use Rattle.typed_program.specs.Statements as s
-use Rattle.typed_program.specs.Statements.{Before, plus, left_type, target, variable, ghost_right, ghost_assigned, members_of, owned_change, claim_end, known_behind_ghost, ghost_row, ghost_rows, inner_ghost, inner_ghosts, append, append_inner}
+use Rattle.typed_program.specs.Statements.{Counters, plus, left_type, target, variable, ghost_right, ghost_assigned, members_of, owned_change, claim_end, known_behind_ghost, ghost_row, ghost_rows, inner_ghost, inner_ghosts, append, append_inner}
 use Rattle.tree_forms.specs.InForm as form
 use Rattle.tree_forms.specs.InForm.{is_code, is_place, all_code}
 use Rattle.typed_laws.proofs.Basics.{and_both, and_left, and_right}
@@ -80,6 +81,22 @@ references_ok o vs m w b c rn (x ∷ xs) f q u =
 members_ok : (o : Setting) (vs : List Variable) → Knows o vs → (w : Context) (b : Bool) (c : Context) → IsTrue (runs c.text) → (y : Members) → IsTrue (form.in_members y) → Quiet (pieces.members (at o vs b c) y) → Converts (member_uses (at o vs b c) y) → IsTrue (all_refs o.program o.info (members_of (around o vs w) y))
 members_ok o vs m w b c rn (g.One x) f q u = alone (is_ref o.program o.info (code (around o vs w) x)) (reference_ok o vs w x (valued o vs m w b c rn x f q) u.0)
 members_ok o vs m w b c rn (g.Several xs) f q u = references_ok o vs m w b c rn xs f q u
+
+-- what an atomic block lists: references, and claims where they are listed as such
+claim_listed : (o : Setting) (vs : List Variable) (w : Context) (x : Exp) → Valued o vs w x → IsTrue (not (s.is_claim (kind (here o vs) x)) || is_claim_expr o.program o.info (code (around o vs w) x))
+claim_listed o vs w x v = subst (λ z. IsTrue (not (s.is_claim z) || is_claim_expr o.program o.info (code (around o vs w) x))) (sym v.is_kind) (go v.sort v.agrees)
+  where
+    go : (k : Kind) → Agrees o.items k (integer_type (here o vs) x) v.all → IsTrue (not (s.is_claim (Some k)) || is_claim_expr o.program o.info (code (around o vs w) x))
+    go kd.Claim h = test_some (values o.program o.info (code (around o vs w) x)) v.all (λ z. fits z d.Claim) v.has (subst (λ z. IsTrue (fits z d.Claim)) (sym h) refl)
+    go _ h = refl
+
+pub listed_ok : (o : Setting) (vs : List Variable) → Knows o vs → (w : Context) (b : Bool) (c : Context) → IsTrue (runs c.text) → (xs : List Exp) → IsTrue (all_code xs) → Quiet (expressions (at o vs b c) xs) → Converts (map (as_reference (at o vs b c)) xs)
+    → IsTrue (every (λ z. is_ref o.program o.info z.object && (not z.is_claim || is_claim_expr o.program o.info z.object)) (map (s.listed (around o vs w)) xs))
+listed_ok o vs m w b c rn [] f q u = refl
+listed_ok o vs m w b c rn (x ∷ xs) f q u =
+    let v = valued o vs m w b c rn x (and_left (is_code x) (all_code xs) f) (quiet_left (expression (at o vs b c) x) (expressions (at o vs b c) xs) q) in
+    and_both _ _ (and_both (is_ref o.program o.info (code (around o vs w) x)) (not (s.is_claim (kind (here o vs) x)) || is_claim_expr o.program o.info (code (around o vs w) x)) (reference_ok o vs w x v u.0) (claim_listed o vs w x v))
+    (listed_ok o vs m w b c rn xs (and_right (is_code x) (all_code xs) f) (quiet_right (expression (at o vs b c) x) (expressions (at o vs b c) xs) q) u.1)
 
 -- ---- pointers to structs
 
@@ -173,7 +190,7 @@ owned_ok o vs m w b c rn p q _ y fx fy h = absurd (true≢false (sym fx))
 
 -- ---- claims
 
-claim_end_ok : (o : Setting) (vs : List Variable) → Knows o vs → (w : Context) (b : Bool) (c : Context) → IsTrue (runs c.text) → (n : Before) (p : Span) (x : Exp) (xs : List Exp) → IsTrue (is_code x) → IsTrue (all_code xs) → Quiet (GhostStatement (at o vs b c) (g.DestroyClaim p x xs) ∷ pieces.in_ghost (at o vs b c) (g.DestroyClaim p x xs))
+claim_end_ok : (o : Setting) (vs : List Variable) → Knows o vs → (w : Context) (b : Bool) (c : Context) → IsTrue (runs c.text) → (n : Counters) (p : Span) (x : Exp) (xs : List Exp) → IsTrue (is_code x) → IsTrue (all_code xs) → Quiet (GhostStatement (at o vs b c) (g.DestroyClaim p x xs) ∷ pieces.in_ghost (at o vs b c) (g.DestroyClaim p x xs))
     → IsTrue (simple_ok o.program o.info o.number b (claim_end (around o vs w) n x xs))
 claim_end_ok o vs m w b c rn n p x xs fx fxs h =
     let c2 = at o vs b c in
@@ -186,7 +203,7 @@ claim_end_ok o vs m w b c rn n p x xs fx fxs h =
 
 -- ---- right sides
 
-right_fits : (o : Setting) (vs : List Variable) → Knows o vs → (w : Context) (b : Bool) (c : Context) → IsTrue (runs c.text) → (n : Before) (x : GhostRhs) → IsTrue (form.in_ghost_right x) → Quiet (pieces.ghost_right (at o vs b c) x) → SitesOf o.program o.number n.sites (n.sites + (s.in_claim x).sites)
+right_fits : (o : Setting) (vs : List Variable) → Knows o vs → (w : Context) (b : Bool) (c : Context) → IsTrue (runs c.text) → (n : Counters) (x : GhostRhs) → IsTrue (form.in_ghost_right x) → Quiet (pieces.ghost_right (at o vs b c) x) → SitesOf o.program o.number n.sites (n.sites + (s.in_claim x).sites)
     → (ty : Ty) (i : Kind) → kind_of o.items ty ≡ Some i → fail_together converts (ghost_right_kind (here o vs) x) (Some i) ≡ false → IsTrue (test (right_values o.program o.info o.number b (ghost_right (around o vs w) n ty x)) (λ v. fits v (declared_type o.items ty)))
 right_fits o vs m w b c rn n (g.Value x) f q sites ty i h j = stores o vs w x (valued o vs m w b c rn x f q) ty i h j
 right_fits o vs m w b c rn n (g.MakeClaim p xs x) f q sites ty i h j =
@@ -195,7 +212,7 @@ right_fits o vs m w b c rn n (g.MakeClaim p xs x) f q sites ty i h j =
     subst (λ z. IsTrue (test (and_then z (λ u. only_if (u.function == o.number) (Refs d.Claim))) (λ v. fits v (declared_type o.items ty)))) (sym site.1)
     (subst (λ z. IsTrue (test (only_if z (Refs d.Claim)) (λ v. fits v (declared_type o.items ty)))) (sym (equal_numbers site.0.function o.number site.2)) claim)
 
-assign_ok : (o : Setting) (vs : List Variable) → Knows o vs → (w : Context) (b : Bool) (c : Context) → IsTrue (runs c.text) → (n : Before) (p : Span) (x : Exp) (q : Span) (y : GhostRhs) → IsTrue (is_place x) → IsTrue (form.in_ghost_right y)
+assign_ok : (o : Setting) (vs : List Variable) → Knows o vs → (w : Context) (b : Bool) (c : Context) → IsTrue (runs c.text) → (n : Counters) (p : Span) (x : Exp) (q : Span) (y : GhostRhs) → IsTrue (is_place x) → IsTrue (form.in_ghost_right y)
     → Quiet (GhostStatement (at o vs b c) (g.Assign p x q y) ∷ pieces.in_ghost (at o vs b c) (g.Assign p x q y)) → SitesOf o.program o.number n.sites (n.sites + (s.in_claim y).sites) → IsTrue (simple_ok o.program o.info o.number b (ghost_assigned (around o vs w) n x y))
 assign_ok o vs m w b c rn n p x q y fx fy h sites =
     let c2 = at o vs b c in
@@ -223,7 +240,7 @@ knows_more o vs m v h j = record { known = one_known (here o vs) m.known v h; nu
     go z (zero, l, q) = subst (Numbered o.items o.info o.names) q j
     go z (suc n, l, q) = m.numbered z (n, omega arith, q)
 
-declare_ok : (o : Setting) (vs : List Variable) → Knows o vs → (w c : Context) → IsTrue (runs c.text) → (n : Before) (p : Span) (ty : Ty) (x : Id) (y : GhostRhs) → IsTrue (form.in_ghost_right y)
+declare_ok : (o : Setting) (vs : List Variable) → Knows o vs → (w c : Context) → IsTrue (runs c.text) → (n : Counters) (p : Span) (ty : Ty) (x : Id) (y : GhostRhs) → IsTrue (form.in_ghost_right y)
     → Quiet (GhostStatement (at o vs false c) (g.Declare p ty x (Some y)) ∷ pieces.in_ghost (at o vs false c) (g.Declare p ty x (Some y))) → Numbered o.items o.info o.names (record { name = x; ty = ty; is_ghost = true }) → SitesOf o.program o.number n.sites (n.sites + (s.in_claim y).sites)
     → IsTrue (row_ok o.program o.info o.number (ghost_row (around o vs w) n (g.Declare p ty x (Some y))))
 declare_ok o vs m w c rn n p ty x y f h j sites =
@@ -268,7 +285,7 @@ knows_ghosts o vs m b c _ q h = m
 
 mutual
   -- a ghost statement outside of atomic blocks
-  pub ghost_ok : (o : Setting) (vs : List Variable) → Knows o vs → (w c : Context) → IsTrue (runs c.text) → (n : Before) (x : GStm) → IsTrue (form.in_ghost x) → Quiet (GhostStatement (at o vs false c) x ∷ pieces.in_ghost (at o vs false c) x) → AllNumbered o (ghost_declared x)
+  pub ghost_ok : (o : Setting) (vs : List Variable) → Knows o vs → (w c : Context) → IsTrue (runs c.text) → (n : Counters) (x : GStm) → IsTrue (form.in_ghost x) → Quiet (GhostStatement (at o vs false c) x ∷ pieces.in_ghost (at o vs false c) x) → AllNumbered o (ghost_declared x)
       → SitesOf o.program o.number n.sites (n.sites + (s.in_ghost x).sites) → IsTrue (row_ok o.program o.info o.number (ghost_row (around o vs w) n x))
   ghost_ok o vs m w c rn n (g.Block p ss) f q h sites = ghosts_ok o vs m w c rn n ss f (quiet_rest _ (pieces.in_ghosts (at o vs false c) ss) q) h sites
   ghost_ok o vs m w c rn n (g.Declare p ty x None) f q h sites =
@@ -304,7 +321,7 @@ mutual
       let other = ghost_ok o vs m w c rn (plus n (s.in_ghost y)) z (and_right (form.in_ghost y) (form.in_ghost z) forms) (quiet_right first second both) (numbered_right o (ghost_declared y) (ghost_declared z) h) (fewer o.program o.number _ _ _ _ sites (omega arith) (omega arith)) in
       alone _ (and_both _ _ (tested o vs w x v) (and_both _ _ one other))
 
-  pub ghosts_ok : (o : Setting) (vs : List Variable) → Knows o vs → (w c : Context) → IsTrue (runs c.text) → (n : Before) (xs : GStms) → IsTrue (form.in_ghosts xs) → Quiet (pieces.in_ghosts (at o vs false c) xs) → AllNumbered o (ghosts_declared xs)
+  pub ghosts_ok : (o : Setting) (vs : List Variable) → Knows o vs → (w c : Context) → IsTrue (runs c.text) → (n : Counters) (xs : GStms) → IsTrue (form.in_ghosts xs) → Quiet (pieces.in_ghosts (at o vs false c) xs) → AllNumbered o (ghosts_declared xs)
       → SitesOf o.program o.number n.sites (n.sites + (s.in_ghosts xs).sites) → IsTrue (row_ok o.program o.info o.number (ghost_rows (around o vs w) n xs))
   ghosts_ok o vs m w c rn n g.Empty f q h sites = refl
   ghosts_ok o vs m w c rn n (g.More x xs) f q h sites =
@@ -320,7 +337,7 @@ mutual
 
 mutual
   -- a ghost statement within an atomic block
-  pub inner_ghost_ok : (o : Setting) (vs : List Variable) → Knows o vs → (w c : Context) → IsTrue (runs c.text) → (n : Before) (x : GStm) → IsTrue (form.in_ghost x) → Quiet (GhostStatement (at o vs true c) x ∷ pieces.in_ghost (at o vs true c) x) → AllNumbered o (ghost_declared x)
+  pub inner_ghost_ok : (o : Setting) (vs : List Variable) → Knows o vs → (w c : Context) → IsTrue (runs c.text) → (n : Counters) (x : GStm) → IsTrue (form.in_ghost x) → Quiet (GhostStatement (at o vs true c) x ∷ pieces.in_ghost (at o vs true c) x) → AllNumbered o (ghost_declared x)
       → SitesOf o.program o.number n.sites (n.sites + (s.in_ghost x).sites) → IsTrue (inner_row_ok o.program o.info o.number (inner_ghost (around o vs w) n x))
   inner_ghost_ok o vs m w c rn n (g.Block p ss) f q h sites = inner_ghosts_ok o vs m w c rn n ss f (quiet_rest _ (pieces.in_ghosts (at o vs true c) ss) q) h sites
   inner_ghost_ok o vs m w c rn n (g.Declare p ty x y) f q h sites = refl
@@ -347,7 +364,7 @@ mutual
       let other = inner_ghost_ok o vs m w c rn (plus n (s.in_ghost y)) z (and_right (form.in_ghost y) (form.in_ghost z) forms) (quiet_right first second both) (numbered_right o (ghost_declared y) (ghost_declared z) h) (fewer o.program o.number _ _ _ _ sites (omega arith) (omega arith)) in
       alone _ (and_both _ _ (tested o vs w x v) (and_both _ _ one other))
 
-  pub inner_ghosts_ok : (o : Setting) (vs : List Variable) → Knows o vs → (w c : Context) → IsTrue (runs c.text) → (n : Before) (xs : GStms) → IsTrue (form.in_ghosts xs) → Quiet (pieces.in_ghosts (at o vs true c) xs) → AllNumbered o (ghosts_declared xs)
+  pub inner_ghosts_ok : (o : Setting) (vs : List Variable) → Knows o vs → (w c : Context) → IsTrue (runs c.text) → (n : Counters) (xs : GStms) → IsTrue (form.in_ghosts xs) → Quiet (pieces.in_ghosts (at o vs true c) xs) → AllNumbered o (ghosts_declared xs)
       → SitesOf o.program o.number n.sites (n.sites + (s.in_ghosts xs).sites) → IsTrue (inner_row_ok o.program o.info o.number (inner_ghosts (around o vs w) n xs))
   inner_ghosts_ok o vs m w c rn n g.Empty f q h sites = refl
   inner_ghosts_ok o vs m w c rn n (g.More x xs) f q h sites =

@@ -20,6 +20,18 @@ pub mod TableNames
 pub mod TableSites
 pub mod FunctionTables
 pub mod SiteTables
+pub mod DeclaredTypes
+pub mod ItemOrder
+pub mod Returns
+pub mod Makes
+pub mod ScopeTests
+pub mod ScopeBridge
+pub mod ScopeReads
+pub mod ScopeSites
+pub mod ScopeParts
+pub mod ScopeRows
+pub mod ScopeBodies
+pub mod Scoped
 pub mod Contents
 pub mod Conjuncts
 pub mod SpecSites
@@ -41,3 +53,4 @@ pub mod FitBodies
 pub mod FitStructs
 pub mod FitSites
 pub mod Annotated
+pub mod OneTyped

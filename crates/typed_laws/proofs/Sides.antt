@@ -8,16 +8,16 @@ use Rattle.c_syntax.specs.declared.token.Span.{Span}
 use Rattle.c_syntax.specs.Expressions as e
 use Rattle.c_syntax.specs.Expressions.{Id, Ty, Exp}
 use Rattle.c_syntax.specs.Items.{Param, FieldTree, StructTree, FunctionTree, Item}
-use Rattle.c_types.specs.Declarations.{same_name, structs, functions, find_struct, find_field}
-use Rattle.c_types.specs.Contexts.{Context, Scope, Variable, deeper}
-use Rattle.c_types.specs.Types as kd
-use Rattle.c_types.specs.Types.{Kind, kind_of, kind, converts, find_variable, variable_or_field, type_of_name, field_of}
-use Rattle.c_types.specs.Values.{field_named}
-use Rattle.c_types.specs.Pieces.{Expression, expression}
-use Rattle.c_types.specs.Places.{fail_together}
-use Rattle.c_types.specs.TypeLaws.{Where, Sound, Typed, IsKnown, Quiet}
+use Rattle.typing_spec.specs.Declarations.{same_name, structs, functions, find_struct, find_field}
+use Rattle.typing_spec.specs.Contexts.{Context, Scope, Variable, deeper}
+use Rattle.typing_spec.specs.Types as kd
+use Rattle.typing_spec.specs.Types.{Kind, kind_of, kind, converts, find_variable, variable_or_field, type_of_name, field_of}
+use Rattle.typing_spec.specs.Values.{field_named}
+use Rattle.typing_spec.specs.Pieces.{Expression, expression}
+use Rattle.typing_spec.specs.Places.{fail_together}
+use Rattle.typing_spec.specs.TypeLaws.{Where, Sound, Typed, IsKnown, Quiet}
 use Rattle.method.specs.declared.program.DeclaredType.TheVariants as d
-use Rattle.method.specs.Typing.{Values, Ints, Nulls, Refs, all_of, fits, are_ints, are_refs, and_then, only_if}
+use Rattle.method.specs.Typing.{Values, Refs, all_of, fits, are_ints, are_refs, and_then, only_if}
 use Rattle.typed_program.specs.Trees as t
 use Rattle.typed_program.specs.Trees.{Code, FunctionInfo, FieldInfo, VariableInfo, Program}
 use Rattle.typed_program.specs.Numbers.{Around, OfQuantifier, OfFunction, meaning_at, place_of, struct_number, declared_type, field_of_kind}
@@ -30,7 +30,7 @@ use Rattle.typed_laws.proofs.Quiet.{quiet_left}
 use Rattle.typed_laws.proofs.Tests.{values, test, converted_values, has_type, takes, variable_takes, field_takes}
 use Rattle.typed_laws.proofs.Facts.{Tables, InCode, Numbered, Within, Agrees, runs}
 use Rattle.typed_laws.proofs.Goals.{CodeLaw}
-use Rattle.typed_laws.proofs.Found.{number_by_name, all_within, widened, within_ints}
+use Rattle.typed_laws.proofs.Found.{number_by_name, all_within, widened, within_ints, fits_within}
 use Rattle.typed_laws.proofs.BodyParts.{equal_numbers, mapped, gone_on, found, together}
 
 -- ---- what stands around
@@ -92,11 +92,6 @@ pub test_some : (o : Option Values) (v : Values) (ok : Values → Bool) → o �
 test_some o v ok h j = subst (λ z. IsTrue (test z ok)) (sym h) j
 
 -- ---- integers
-
-pub fits_within : (c : CType) (v : Values) → Within c v → IsTrue (fits v (d.Integer c))
-fits_within c (Ints low high) h = h
-fits_within c Nulls h = absurd h
-fits_within c (Refs ty) h = absurd h
 
 -- what is converted to a type is of the type
 pub converted_within : (from to : CType) (v : Values) → Within from v → Within to (converted_values (conversion from to) v)

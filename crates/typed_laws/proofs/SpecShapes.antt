@@ -1,5 +1,5 @@
 -- The shape of a conjunct that passes stands in the table, and one that is the same passes too.
-use Rattle.std.specs.Prelude.{ℕ, suc, ◌+◌, Bool, true, false, cond, ◌||◌, if◌then◌else◌, List, [], ◌∷◌, map, flat_map, Some, Contains, position, slice_get, unwrap_or, option_map, IsTrue}
+use Rattle.std.specs.Prelude.{ℕ, suc, ◌+◌, Bool, true, false, cond, ◌||◌, if◌then◌else◌, List, [], ◌∷◌, map, flat_map, Option, Some, None, Contains, position, slice_get, unwrap_or, option_map, IsTrue}
 use Rattle.std.specs.List.{list_any}
 use Rattle.std.proofs.Common.{◌≡◌, ◌⊎◌, refl, sym, ap, subst, ◌∙◌, inl, inr, arith}
 use Rattle.std.proofs.lemmas.Bool.{true≢false}
@@ -7,14 +7,14 @@ use Rattle.std.proofs.lemmas.Option.{slice_get-map}
 use Rattle.std.proofs.lemmas.List.Elements.{Contains-append_left, Contains-append_right}
 use Rattle.c_syntax.specs.Items as i
 use Rattle.c_syntax.specs.Items.{FunctionTree, StructTree, Item}
-use Rattle.c_types.specs.Declarations.{functions}
+use Rattle.typing_spec.specs.Declarations.{functions}
 use Rattle.typed_program.specs.Trees.{Spec, Shape}
 use Rattle.typed_program.specs.Numbers.{place_of}
 use Rattle.typed_program.specs.Shapes.{Sorts, shape, same_sorts, same, same_shape, shapes_in, property_shapes, first_ones, table_shape}
 use Rattle.typed_program.specs.Sites.{Site, Makes}
-use Rattle.typed_program.specs.Tables.{struct_tells, function_tells, function_sorts, told_shapes, no_sorts, item_shapes, shapes}
+use Rattle.typed_program.specs.Tables.{struct_occurrences, function_occurrences, function_sorts, told_shapes, no_sorts, item_shapes, shapes}
 use Rattle.typed_laws.proofs.Basics.{and_right, never, contains_head, contains_tail, contains_cases, contains_none, to_flat_map, position_cons}
-use Rattle.typed_laws.proofs.Tests.{shape_ok}
+use Rattle.typed_laws.proofs.Tests.{is_conjunct}
 use Rattle.typed_laws.proofs.Conjuncts.{conjunct_passes, conjunct_opened, shape_itself, conjunct_same_passes, numbered_conjunct}
 
 -- ---- what passes a test, among others
@@ -107,28 +107,33 @@ in_property s (v ∷ vs) w c =
     ]
 
 -- what is a shape of a function, whatever its number, is one of the items
-pub in_functions : (items : List Item) (h : FunctionTree) (z : Shape) → ((j : ℕ) → Contains (flat_map (told_shapes (function_sorts items h)) (function_tells items j h)) z) → (j : ℕ) (all : List Item) → Contains (functions all) h → Contains (item_shapes items j all) z
+pub in_functions : (items : List Item) (h : FunctionTree) (z : Shape) → ((j : ℕ) → Contains (flat_map (told_shapes (function_sorts items h)) (function_occurrences items j h)) z) → (j : ℕ) (all : List Item) → Contains (functions all) h → Contains (item_shapes items j all) z
 in_functions items h z f j [] c = absurd (contains_none h c)
-in_functions items h z f j (i.Struct s ∷ all) c = Contains-append_right (flat_map (told_shapes no_sorts) (struct_tells items s)) (item_shapes items j all) z (in_functions items h z f j all c)
+in_functions items h z f j (i.Struct s ∷ all) c = Contains-append_right (flat_map (told_shapes no_sorts) (struct_occurrences items s)) (item_shapes items j all) z (in_functions items h z f j all c)
 in_functions items h z f j (i.Function u ∷ all) c =
     elim (contains_cases u h (functions all) c) [
       | inl g ↦
-          Contains-append_left (flat_map (told_shapes (function_sorts items u)) (function_tells items j u)) (item_shapes items (suc j) all) z
-          (subst (λ v. Contains (flat_map (told_shapes (function_sorts items v)) (function_tells items j v)) z) (sym g) (f j))
-      | inr d ↦ Contains-append_right (flat_map (told_shapes (function_sorts items u)) (function_tells items j u)) (item_shapes items (suc j) all) z (in_functions items h z f (suc j) all d)
+          Contains-append_left (flat_map (told_shapes (function_sorts items u)) (function_occurrences items j u)) (item_shapes items (suc j) all) z
+          (subst (λ v. Contains (flat_map (told_shapes (function_sorts items v)) (function_occurrences items j v)) z) (sym g) (f j))
+      | inr d ↦ Contains-append_right (flat_map (told_shapes (function_sorts items u)) (function_occurrences items j u)) (item_shapes items (suc j) all) z (in_functions items h z f (suc j) all d)
     ]
 
 -- the shape of a conjunct of a claim that a function tells of stands among those of the items
-pub told_shape : (items : List Item) (h : FunctionTree) → Contains (functions items) h → (w : Spec) → ((j : ℕ) → (x : Site) × Contains (function_tells items j h) (Makes x) × Contains x.property w) → Contains (item_shapes items 0 items) (shape (function_sorts items h) w)
+pub told_shape : (items : List Item) (h : FunctionTree) → Contains (functions items) h → (w : Spec) → ((j : ℕ) → (x : Site) × Contains (function_occurrences items j h) (Makes x) × Contains x.property w) → Contains (item_shapes items 0 items) (shape (function_sorts items h) w)
 told_shape items h c w f =
     in_functions items h (shape (function_sorts items h) w)
-    (λ j. let m = f j in to_flat_map (told_shapes (function_sorts items h)) (function_tells items j h) (Makes m.0) (shape (function_sorts items h) w) m.1 (in_property (function_sorts items h) m.0.property w m.2)) 0 items c
+    (λ j. let m = f j in to_flat_map (told_shapes (function_sorts items h)) (function_occurrences items j h) (Makes m.0) (shape (function_sorts items h) w) m.1 (in_property (function_sorts items h) m.0.property w m.2)) 0 items c
 
 -- ---- the table
 
+-- the shape stands, and its conjunct reads what it may
+abbrev pub reads_well : Option Shape → Bool
+reads_well None = false
+reads_well (Some s) = is_conjunct s.conjunct
+
 -- its number is that of a conjunct that reads what it may
 pub shape_passes : (items : List Item) (s : Sorts) (ok : ℕ → Bool) (w : Spec) → IsTrue (conjunct_passes true ok w) → Contains (item_shapes items 0 items) (shape s w)
-    → IsTrue (shape_ok (slice_get (map (table_shape (shapes items)) (shapes items)) (place_of (same_shape (shape s w)) (shapes items))))
+    → IsTrue (reads_well (slice_get (map (table_shape (shapes items)) (shapes items)) (place_of (same_shape (shape s w)) (shapes items))))
 shape_passes items s ok w h c =
     let l = shapes items in
     let z = shape s w in
@@ -138,4 +143,4 @@ shape_passes items s ok w h c =
     let number_is : r.number ≡ place_of (same_shape z) l = sym (ap (λ v. unwrap_or v 0) r.found) in
     let passing = conjunct_same_passes z.conjunct r.one.conjunct (and_right (same_sorts z.holes r.one.holes) (same z.conjunct r.one.conjunct) r.passes) o in
     let in_table : slice_get (map (table_shape l) l) r.number ≡ Some (table_shape l r.one) = slice_get-map (table_shape l) l r.number ∙ ap (option_map (table_shape l)) r.there in
-    subst (λ j. IsTrue (shape_ok (slice_get (map (table_shape l) l) j))) number_is (subst (λ v. IsTrue (shape_ok v)) (sym in_table) (numbered_conjunct l _ r.one.conjunct passing))
+    subst (λ j. IsTrue (reads_well (slice_get (map (table_shape l) l) j))) number_is (subst (λ v. IsTrue (reads_well v)) (sym in_table) (numbered_conjunct l _ r.one.conjunct passing))

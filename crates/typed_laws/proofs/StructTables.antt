@@ -1,28 +1,29 @@
 -- The tables of structs and of fields: what stands in them, and under which number.
 use Rattle.std.specs.Prelude.{ℕ, zero, suc, ◌+◌, ◌-◌, ◌<◌, ◌≤◌, ◌==◌, nat_le, nat_lt, Bool, true, false, ◌&&◌, if◌then◌else◌, List, [], ◌∷◌, length, map, flat_map, take, Option, Some, None, Contains, find, position, slice_get, unwrap_or, option_map, option_and_then, IsTrue}
-use Rattle.std.proofs.Common.{◌≡◌, refl, sym, ap, ◌∙◌, arith}
-use Rattle.std.proofs.lemmas.Option.{slice_get_within, none-some, same_Some}
+use Rattle.std.proofs.Common.{◌≡◌, refl, sym, ap, ◌∙◌, arith, inl, inr}
+use Rattle.std.proofs.lemmas.Option.{slice_get_within, slice_get_cases, none-some, same_Some}
+use Rattle.std.proofs.Math.Seq.{take-length}
 use Rattle.std.proofs.lemmas.List.{length-append, length-map}
 use Rattle.std.proofs.lemmas.Bool.Decides.{nat_tests}
 use Rattle.c_syntax.specs.declared.token.Span.{Span}
 use Rattle.c_syntax.specs.Expressions.{Id}
 use Rattle.c_syntax.specs.Items as i
 use Rattle.c_syntax.specs.Items.{FieldTree, StructTree, FunctionTree, Item}
-use Rattle.c_types.specs.Declarations.{same_name, structs, functions, fields, find_field}
-use Rattle.c_types.specs.Names.{repeated}
-use Rattle.c_types.specs.Rules as r
-use Rattle.c_types.specs.Pieces.{Program}
-use Rattle.c_types.specs.First.{IsWellTyped}
-use Rattle.declared_names.specs.Counts.{field_count}
-use Rattle.declared_names.proofs.Places.{find_place}
+use Rattle.typing_spec.specs.Declarations.{same_name, structs, functions, fields, find_field}
+use Rattle.typing_spec.specs.Names.{repeated}
+use Rattle.typing_spec.specs.Rules as r
+use Rattle.typing_spec.specs.Pieces.{Program}
+use Rattle.typing_spec.specs.First.{IsWellTyped}
+use Rattle.typing_symbols.specs.Counts.{field_count}
+use Rattle.typing_symbols.proofs.Places.{find_place}
 use Rattle.typed_program.specs.Trees as t
 use Rattle.typed_program.specs.Trees.{StructInfo, FieldInfo}
 use Rattle.typed_program.specs.Numbers.{struct_number, fields_before, field_number}
-use Rattle.typed_program.specs.Statements.{Before, plus}
+use Rattle.typed_program.specs.Statements.{Counters, plus}
 use Rattle.typed_program.specs.Tables.{field, struct, in_item, struct_table, start, field_table, numbered_struct, shapes, program}
 use Rattle.typed_laws.proofs.Basics.{contained}
 use Rattle.typed_laws.proofs.Quiet.{quiet_items}
-use Rattle.typed_laws.proofs.Tests.{struct_of, struct_test, is_struct, is_field_range}
+use Rattle.typed_laws.proofs.Tests.{struct_of, struct_test, is_struct, belongs, is_field_range}
 use Rattle.typed_laws.proofs.Facts.{StructAt}
 use Rattle.typed_laws.proofs.Goals.{StructsLaw, FieldsLaw, FieldStructsLaw}
 use Rattle.typed_laws.proofs.TableLists.{at_place, mapped, to_mapped, offset, From, flat_at, from_flat, offset_next, offset_grows, both_nil, first_named}
@@ -41,17 +42,21 @@ found_at {A} q xs x e = go (position q xs) refl (sym (find_place q xs) ∙ e)
     go None p h = absurd (none-some x h)
     go (Some n) p h = (n, p, h)
 
+and_false : (b : Bool) → (b && false) ≡ false
+and_false true = refl
+and_false false = refl
+
 -- ---- structs
 
 -- the entry of the struct at a place
-struct_row : (items : List Item) (n : Before) (more : List Item) (place : ℕ) (s : StructTree) → slice_get (structs more) place ≡ Some s → (m : ℕ) × (slice_get (struct_table items n more) place ≡ Some (struct items m s))
+struct_row : (items : List Item) (n : Counters) (more : List Item) (place : ℕ) (s : StructTree) → slice_get (structs more) place ≡ Some s → (m : ℕ) × (slice_get (struct_table items n more) place ≡ Some (struct items m s))
 struct_row items n [] place s e = absurd (none-some s e)
 struct_row items n (i.Struct z ∷ more) zero s e = (n.formulas, ap (λ w. Some (struct items n.formulas w)) (same_Some z s e))
 struct_row items n (i.Struct z ∷ more) (suc place) s e = struct_row items (plus n (in_item (i.Struct z))) more place s e
 struct_row items n (i.Function h ∷ more) place s e = struct_row items (plus n (in_item (i.Function h))) more place s e
 
 -- the struct of the entry at a place
-pub row_struct : (items : List Item) (n : Before) (more : List Item) (place : ℕ) (info : StructInfo) → slice_get (struct_table items n more) place ≡ Some info
+pub row_struct : (items : List Item) (n : Counters) (more : List Item) (place : ℕ) (info : StructInfo) → slice_get (struct_table items n more) place ≡ Some info
     → (m : ℕ) × (s : StructTree) × (slice_get (structs more) place ≡ Some s) × (struct items m s ≡ info)
 row_struct items n [] place info e = absurd (none-some info e)
 row_struct items n (i.Struct z ∷ more) zero info e = (n.formulas, z, refl, same_Some (struct items n.formulas z) info e)
@@ -98,7 +103,7 @@ structs_law items ty info e =
 -- ---- fields
 
 -- the entries of a struct's fields
-abbrev rows_of : List Item → StructTree → List FieldInfo
+abbrev pub rows_of : List Item → StructTree → List FieldInfo
 rows_of items s = map (field items s) (fields s.members)
 
 count_rows : (items : List Item) (ss : List StructTree) → field_count ss ≡ length (flat_map (rows_of items) ss)
@@ -114,7 +119,7 @@ row_step items place s e = omega (arith, offset_next (rows_of items) (structs it
 
 -- the table's number of a field, where it is the number of its place
 in_range : (a b m n j l o : ℕ) → j < l → (m < n → a + l ≤ b) → (n < m → b + o ≤ a) → (m ≡ n → (a ≡ b) × (l ≡ o)) → ((3 + m) == (3 + n)) ≡ (nat_le b (a + j) && nat_lt (a + j) (b + o))
-in_range a b m n j l o within before behind same = grind (arith, nat_tests, before, behind, same)
+in_range a b m n j l o within before following same = grind (arith, nat_tests, before, following, same)
 
 module _ (items : List Item) (end : Span) (w : IsWellTyped items end) where
   struct_first : (place : ℕ) (s : StructTree) → slice_get (structs items) place ≡ Some s → position (λ u. same_name u.name s.name) (structs items) ≡ Some place
@@ -166,6 +171,17 @@ module _ (items : List Item) (end : Span) (w : IsWellTyped items end) where
       (λ e. (ap (first_row items) e, ap (λ (z : StructTree). length (fields z.members)) (same_Some q.of p.tree (sym q.there ∙ (ap (slice_get (structs items)) e ∙ p.there)))))
       ∙ sym range)
 
+  -- behind the table no struct has a field
+  none_behind : (ty f : ℕ) (s : StructInfo) → Entry items ty s → length (field_table items) ≤ f → is_field_range f s ≡ false
+  none_behind ty f s p h =
+      let first : s.first_field ≡ first_row items p.place = ap (λ (y : StructInfo). y.first_field) p.is ∙ before_at p.place p.tree p.there in
+      let many : s.fields ≡ length (fields p.tree.members) = ap (λ (y : StructInfo). y.fields) p.is in
+      let all : first_row items (length (structs items)) ≡ length (field_table items) = ap (λ (zs : List StructTree). length (flat_map (rows_of items) zs)) (take-length (structs items)) in
+      let upto : first_row items (suc p.place) ≤ first_row items (length (structs items)) = offset_grows (rows_of items) (structs items) (suc p.place) (length (structs items)) (omega (arith, slice_get_within (structs items) p.place p.tree p.there)) in
+      let past : s.first_field + s.fields ≤ f = omega (arith, first, many, all, upto, row_step items p.place p.tree p.there, h) in
+      let beyond : nat_lt f (s.first_field + s.fields) ≡ false = grind (arith, nat_tests, past) in
+      ap (λ b. nat_le s.first_field f && b) beyond ∙ and_false (nat_le s.first_field f)
+
   -- a field's owner is a struct of the table
   owner_in_table : (f : ℕ) (x : FieldInfo) → From (rows_of items) (structs items) f x → IsTrue (is_struct (program items) x.of)
   owner_in_table f x q =
@@ -175,7 +191,11 @@ module _ (items : List Item) (end : Span) (w : IsWellTyped items end) where
       ap (λ n. is_struct (program items) n) owner ∙ ap (struct_test (λ s. true)) p.1
 
 pub fields_law : FieldsLaw
-fields_law items end w ty f s x e h = fields_are items end w ty f s x (entry items ty s e) (from_flat (rows_of items) (structs items) f x h)
+fields_law items end w ty f s e =
+    elim (slice_get_cases (field_table items) f).1 [
+      | inl h ↦ ap (λ o. belongs o ty) h.2 ∙ fields_are items end w ty f s h.0 (entry items ty s e) (from_flat (rows_of items) (structs items) f h.0 h.2)
+      | inr h ↦ ap (λ o. belongs o ty) h.1 ∙ sym (none_behind items end w ty f s (entry items ty s e) h.0)
+    ]
 
 pub field_structs_law : FieldStructsLaw
 field_structs_law items end w f x h = owner_in_table items end w f x (from_flat (rows_of items) (structs items) f x h)

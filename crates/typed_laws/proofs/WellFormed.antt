@@ -4,7 +4,7 @@ use Rattle.std.proofs.lemmas.Bool.{le-leb}
 use Rattle.std.proofs.lemmas.List.{length-map, length-append}
 use Rattle.c_syntax.specs.declared.token.Span.{Span}
 use Rattle.c_syntax.specs.Items.{FunctionTree, Item}
-use Rattle.c_types.specs.First.{IsWellTyped}
+use Rattle.typing_spec.specs.First.{IsWellTyped}
 use Rattle.typed_program.specs.Trees.{FunctionInfo}
 use Rattle.typed_program.specs.Variables.{parameter, variables, all_declared}
 use Rattle.typed_program.specs.Tables.{variable, program}
@@ -18,8 +18,14 @@ use Rattle.typed_laws.proofs.Entry.{entry_law}
 use Rattle.typed_laws.proofs.StructTables.{structs_law, fields_law, field_structs_law}
 use Rattle.typed_laws.proofs.FunctionTables.{functions_law, tables_law, main_law}
 use Rattle.typed_laws.proofs.SiteTables.{sites_law}
+use Rattle.typed_laws.proofs.DeclaredTypes.{field_types_law, variable_types_law, result_types_law}
+use Rattle.typed_laws.proofs.ItemOrder.{items_law}
+use Rattle.typed_laws.proofs.Returns.{returns_law}
+use Rattle.typed_laws.proofs.Makes.{sites_stand_law}
 use Rattle.typed_laws.proofs.Contents.{invariants_law}
 use Rattle.typed_laws.proofs.Claims.{claims_law}
+use Rattle.typed_laws.proofs.Meanings.{meaning_law}
+use Rattle.typed_laws.proofs.Annotated.{annotations_law}
 use Rattle.typed_laws.proofs.BodyWhole.{bodies_law}
 
 -- ---- functions
@@ -45,10 +51,16 @@ tested items end form typed = record {
   main = main_law items end typed;
   parameters = λ k info at_k. enough_variables items k info (functions_law items end typed k info at_k);
   bodies = bodies_law code_law tables_law functions_law items end form typed;
+  returns = returns_law items end typed;
+  variable_types = variable_types_law items end typed;
+  result_types = result_types_law items end typed;
   fields = fields_law items end typed;
+  field_types = field_types_law items end typed;
   field_structs = field_structs_law items end typed;
   invariants = invariants_law structs_law items end form typed;
-  sites = claims_law tables_law sites_law entry_law code_law items end form typed;
+  sites = claims_law tables_law sites_law entry_law code_law (annotations_law meaning_law) items end form typed;
+  sites_stand = sites_stand_law items end typed;
+  items = items_law items;
 }
 
 pub well_formed_law : WellFormedLaw

@@ -13,12 +13,12 @@ use Rattle.c_syntax.specs.Ghosts.{Members, OwnsEffect, GhostRhs, GStm, GStms}
 use Rattle.c_syntax.specs.Statements as st
 use Rattle.c_syntax.specs.Statements.{Inv, Stm, Stms}
 use Rattle.c_syntax.specs.Items.{Param, FunctionTree}
-use Rattle.c_types.specs.Declarations.{find_function}
-use Rattle.c_types.specs.Contexts.{Context, Scope}
-use Rattle.c_types.specs.Types.{Kind, type_of_name, kind}
-use Rattle.c_types.specs.Types as k
-use Rattle.c_types.specs.Values.{field_named}
-use Rattle.c_types.specs.Pieces.{behind, behind_ghost}
+use Rattle.typing_spec.specs.Declarations.{find_function}
+use Rattle.typing_spec.specs.Contexts.{Context, Scope}
+use Rattle.typing_spec.specs.Types.{Kind, type_of_name, kind}
+use Rattle.typing_spec.specs.Types as k
+use Rattle.typing_spec.specs.Values.{field_named}
+use Rattle.typing_spec.specs.Pieces.{following, behind_ghost}
 use Rattle.method.specs.declared.program.Operator.{Operator}
 use Rattle.method.specs.declared.program.Operator.TheVariants as operators
 use Rattle.method.specs.declared.program.OwnsChange.TheVariants as changes
@@ -29,35 +29,35 @@ use Rattle.typed_program.specs.Codes.{Computes, Operand, code, codes, code_binar
 use Rattle.typed_program.specs.Annotations.{formulas, spec}
 
 -- How many quantified formulas, `\destroy_claim` and `\make_claim` stand before a place. A wrap and an unwrapping block have a formula each, about the members.
-pub record Before : Type 0 where
+pub record Counters : Type 0 where
   pub formulas : ℕ
   pub ended : ℕ
   pub sites : ℕ
 
-abbrev pub none : Before
+abbrev pub none : Counters
 none = record { formulas = 0; ended = 0; sites = 0 }
 
-abbrev pub plus : Before → Before → Before
+abbrev pub plus : Counters → Counters → Counters
 plus x y = record { formulas = x.formulas + y.formulas; ended = x.ended + y.ended; sites = x.sites + y.sites }
 
-abbrev pub plus_formulas : Before → ℕ → Before
+abbrev pub plus_formulas : Counters → ℕ → Counters
 plus_formulas x n = record x { formulas = x.formulas + n }
 
-abbrev pub some_formulas : ℕ → Before
+abbrev pub some_formulas : ℕ → Counters
 some_formulas n = record none { formulas = n }
 
 -- ---- how many there are in a statement
 
-abbrev pub in_claim : GhostRhs → Before
+abbrev pub in_claim : GhostRhs → Counters
 in_claim (g.Value x) = none
 in_claim (g.MakeClaim p xs x) = record none { sites = 1 }
 
-abbrev pub in_maybe : Option GhostRhs → Before
+abbrev pub in_maybe : Option GhostRhs → Counters
 in_maybe None = none
 in_maybe (Some r) = in_claim r
 
 abbrev mutual
-  pub in_ghost : GStm → Before
+  pub in_ghost : GStm → Counters
   in_ghost (g.Block p ss) = in_ghosts ss
   in_ghost (g.Declare p ty x r) = in_maybe r
   in_ghost (g.Assign p x q r) = in_claim r
@@ -68,7 +68,7 @@ abbrev mutual
   in_ghost (g.If p x s) = in_ghost s
   in_ghost (g.IfElse p x s t) = plus (in_ghost s) (in_ghost t)
 
-  pub in_ghosts : GStms → Before
+  pub in_ghosts : GStms → Counters
   in_ghosts g.Empty = none
   in_ghosts (g.More s ss) = plus (in_ghost s) (in_ghosts ss)
 
@@ -77,7 +77,7 @@ in_invariants [] = 0
 in_invariants (x ∷ xs) = formulas x.property + in_invariants xs
 
 abbrev mutual
-  pub in_statement : Stm → Before
+  pub in_statement : Stm → Counters
   in_statement (st.Block p ss q) = in_statements ss
   in_statement (st.If p x s) = in_statement s
   in_statement (st.IfElse p x s t) = plus (in_statement s) (in_statement t)
@@ -91,7 +91,7 @@ abbrev mutual
   in_statement (st.Atomic p xs ss q) = in_statements ss
   in_statement _ = none
 
-  pub in_statements : Stms → Before
+  pub in_statements : Stms → Counters
   in_statements st.Empty = none
   in_statements (st.More s ss) = plus (in_statement s) (in_statements ss)
 
@@ -232,11 +232,11 @@ defined a line ty x r = t.Do line (t.Define (variable a x) (right a ty r))
 
 -- ---- ghost statements
 
-abbrev pub ghost_right : Around → Before → Ty → GhostRhs → Right
+abbrev pub ghost_right : Around → Counters → Ty → GhostRhs → Right
 ghost_right a n ty (g.Value x) = t.Compute (stored a ty x)
 ghost_right a n ty (g.MakeClaim p xs x) = t.NewClaim n.sites
 
-abbrev pub ghost_assigned : Around → Before → Exp → GhostRhs → Simple
+abbrev pub ghost_assigned : Around → Counters → Exp → GhostRhs → Simple
 ghost_assigned a n x r = t.Assign (target a x) (ghost_right a n (left_type a.context.scope x) r)
 
 -- the object whose owned set this is
@@ -253,7 +253,7 @@ owned_change a x (g.Become xs) = t.ChangeOwned changes.Assigned (owner_of a x) (
 owned_change a x (g.Join y) = t.ChangeOwned changes.Added (owner_of a x) (members_of a y)
 owned_change a x (g.Leave y) = t.ChangeOwned changes.Removed (owner_of a x) (members_of a y)
 
-abbrev pub claim_end : Around → Before → Exp → List Exp → Simple
+abbrev pub claim_end : Around → Counters → Exp → List Exp → Simple
 claim_end a n x xs = t.EndClaim n.ended (code a x) (codes a xs)
 
 abbrev pub do_simply : ℕ → Simple → Stmts
@@ -264,7 +264,7 @@ abbrev pub known_behind_ghost : Around → GStm → Around
 known_behind_ghost a s = record a { context = behind_ghost a.context s }
 
 abbrev mutual
-  pub ghost_row : Around → Before → GStm → Stmts
+  pub ghost_row : Around → Counters → GStm → Stmts
   ghost_row a n (g.Block p ss) = ghost_rows a n ss
   ghost_row a n (g.Declare p ty x None) = one (t.Do p.line (t.Declare (variable a x)))
   ghost_row a n (g.Declare p ty x (Some r)) = one (t.Do p.line (t.Define (variable a x) (ghost_right a n ty r)))
@@ -273,10 +273,10 @@ abbrev mutual
   ghost_row a n (g.DestroyClaim p x xs) = do_simply p.line (claim_end a n x xs)
   ghost_row a n (g.Wrap p x) = one (t.Do p.line (t.WrapObject (struct_at a x) n.formulas (code a x)))
   ghost_row a n (g.Unwrap p x) = one (t.Do p.line (t.UnwrapObject (code a x)))
-  ghost_row a n (g.If p x s) = one (t.If p.line (code a x) (ghost_row a n s) NoStmt)
-  ghost_row a n (g.IfElse p x s u) = one (t.If p.line (code a x) (ghost_row a n s) (ghost_row a (plus n (in_ghost s)) u))
+  ghost_row a n (g.If p x s) = one (t.If p.line true (code a x) (ghost_row a n s) NoStmt)
+  ghost_row a n (g.IfElse p x s u) = one (t.If p.line true (code a x) (ghost_row a n s) (ghost_row a (plus n (in_ghost s)) u))
 
-  pub ghost_rows : Around → Before → GStms → Stmts
+  pub ghost_rows : Around → Counters → GStms → Stmts
   ghost_rows a n g.Empty = NoStmt
   ghost_rows a n (g.More s ss) = append (ghost_row a n s) (ghost_rows (known_behind_ghost a s) (plus n (in_ghost s)) ss)
 
@@ -285,7 +285,7 @@ abbrev pub inside : ℕ → Simple → Inners
 inside line s = one_inner (t.Inside line s)
 
 abbrev mutual
-  pub inner_ghost : Around → Before → GStm → Inners
+  pub inner_ghost : Around → Counters → GStm → Inners
   inner_ghost a n (g.Block p ss) = inner_ghosts a n ss
   inner_ghost a n (g.Assign p x q r) = inside p.line (ghost_assigned a n x r)
   inner_ghost a n (g.Owns p x q y) = inside p.line (owned_change a x y)
@@ -294,24 +294,24 @@ abbrev mutual
   inner_ghost a n (g.IfElse p x s u) = one_inner (t.InsideIf p.line (code a x) (inner_ghost a n s) (inner_ghost a (plus n (in_ghost s)) u))
   inner_ghost a n _ = NoInner
 
-  pub inner_ghosts : Around → Before → GStms → Inners
+  pub inner_ghosts : Around → Counters → GStms → Inners
   inner_ghosts a n g.Empty = NoInner
   inner_ghosts a n (g.More s ss) = append_inner (inner_ghost a n s) (inner_ghosts (known_behind_ghost a s) (plus n (in_ghost s)) ss)
 
 -- ---- statements
 
 abbrev pub known_behind : Around → Stm → Around
-known_behind a s = record a { context = behind a.context s }
+known_behind a s = record a { context = following a.context s }
 
 -- a statement of code within an atomic block; no other stands there
 abbrev mutual
-  pub inner_row : Around → Before → Stm → Inners
+  pub inner_row : Around → Counters → Stm → Inners
   inner_row a n (st.Block p ss q) = inner_rows a n ss
   inner_row a n (st.Assign p x) = inside p.line (t.Assign (target a x.left) (changed a x.left x.effect))
   inner_row a n (st.Ghost p s) = inner_ghost a n s
   inner_row a n _ = NoInner
 
-  pub inner_rows : Around → Before → Stms → Inners
+  pub inner_rows : Around → Counters → Stms → Inners
   inner_rows a n st.Empty = NoInner
   inner_rows a n (st.More s ss) = append_inner (inner_row a n s) (inner_rows (known_behind a s) (plus n (in_statement s)) ss)
 
@@ -333,15 +333,15 @@ abbrev pub returned : Around → Option Exp → Option Code
 returned a x = option_map (stored a (type_or a.context.value)) x
 
 abbrev mutual
-  pub row : Around → Before → Stm → Stmts
+  pub row : Around → Counters → Stm → Stmts
   row a n (st.Block p ss q) = rows a n ss
   row a n (st.Skip p) = NoStmt
   row a n (st.Declare p ty x None) = one (t.Do p.line (t.Declare (variable a x)))
   row a n (st.Declare p ty x (Some r)) = one (defined a p.line ty x r)
   row a n (st.Assign p x) = one (assigned a p.line x)
   row a n (st.Call p x) = one (call_of a p.line t.Nobody None x)
-  row a n (st.If p x s) = one (t.If p.line (code a x) (row a n s) NoStmt)
-  row a n (st.IfElse p x s u) = one (t.If p.line (code a x) (row a n s) (row a (plus n (in_statement s)) u))
+  row a n (st.If p x s) = one (t.If p.line false (code a x) (row a n s) NoStmt)
+  row a n (st.IfElse p x s u) = one (t.If p.line false (code a x) (row a n s) (row a (plus n (in_statement s)) u))
   row a n (st.While p x is s) = one (t.While p.line (invariants a n.formulas is) (code a x) (row a (plus_formulas n (in_invariants is)) s))
   row a n (st.Do p is s q x) = one (t.DoWhile p.line (invariants a n.formulas is) (row a (plus_formulas n (in_invariants is)) s) q.line (code a x))
   row a n (st.For p u x v is s) =
@@ -356,6 +356,6 @@ abbrev mutual
   row a n (st.Unwrapping p x ss q) = one (t.Unwrapping p.line (struct_at a x) n.formulas (code a x) (rows a (plus_formulas n 1) ss))
   row a n (st.Atomic p xs ss q) = one (t.Do p.line (t.Atomic (map (listed a) xs) (inner_rows a n ss)))
 
-  pub rows : Around → Before → Stms → Stmts
+  pub rows : Around → Counters → Stms → Stmts
   rows a n st.Empty = NoStmt
   rows a n (st.More s ss) = append (row a n s) (rows (known_behind a s) (plus n (in_statement s)) ss)

@@ -1,5 +1,5 @@
 -- The tables of a program: what the typing of its items leaves. Own: structs, functions and claim sites stand in the order of the text, quantified formulas and shapes are numbered in it; `_(maintains E)` is a clause of both kinds, and `\span(o)` and `\extent(o)` in a writes list require that o is mutable.
-use Rattle.std.specs.Prelude.{ℕ, suc, ◌+◌, Bool, not, ◌&&◌, if◌then◌else◌, List, [], ◌∷◌, ◌++◌, length, map, flat_map, Option, Some, None, bytes_eq, codes, option_map}
+use Rattle.std.specs.Prelude.{false, ℕ, suc, ◌+◌, Bool, not, ◌&&◌, if◌then◌else◌, List, [], ◌∷◌, ◌++◌, length, map, flat_map, Option, Some, None, bytes_eq, codes, option_map}
 use Rattle.c_syntax.specs.declared.token.Span.{Span}
 use Rattle.c_syntax.specs.declared.tree.Condition.{Condition}
 use Rattle.c_syntax.specs.declared.tree.Condition.TheVariants as conditions
@@ -8,9 +8,9 @@ use Rattle.c_syntax.specs.Expressions.{Ty, Exp}
 use Rattle.c_syntax.specs.Statements.{Inv}
 use Rattle.c_syntax.specs.Items as i
 use Rattle.c_syntax.specs.Items.{Written, Clause, FunctionTree, FieldTree, Member, StructTree, Item}
-use Rattle.c_types.specs.Declarations.{structs, functions, fields, is_claimable, has_dynamic_owns, has_volatile_owns}
-use Rattle.c_types.specs.Contexts.{Context, Variable, Writes, with_text}
-use Rattle.c_types.specs.Pieces.{in_function, in_struct, in_condition}
+use Rattle.typing_spec.specs.Declarations.{structs, functions, fields, is_claimable, has_dynamic_owns, has_volatile_owns}
+use Rattle.typing_spec.specs.Contexts.{Context, Variable, Writes, with_text}
+use Rattle.typing_spec.specs.Pieces.{in_function, in_struct, in_condition}
 use Rattle.method.specs.declared.program.Sort.{Sort}
 use Rattle.method.specs.declared.program.Sort.TheVariants.{IntSort, RefSort}
 use Rattle.method.specs.declared.program.Item.TheVariants as tables
@@ -22,8 +22,8 @@ use Rattle.typed_program.specs.Numbers.{Around, in_context, place_of, struct_num
 use Rattle.typed_program.specs.Variables.{variables}
 use Rattle.typed_program.specs.Annotations.{formulas, spec, mine}
 use Rattle.typed_program.specs.Shapes.{Sorts, sort_of_type, shapes_in, property_shapes, first_ones, conjunct, numbered, table_shape}
-use Rattle.typed_program.specs.Statements.{Before, none, plus, some_formulas, plus_formulas, in_statements, rows}
-use Rattle.typed_program.specs.Sites.{Site, Told, Says, Makes, all_tell}
+use Rattle.typed_program.specs.Statements.{Counters, none, plus, some_formulas, plus_formulas, in_statements, rows}
+use Rattle.typed_program.specs.Sites.{Site, Occurrence, Says, Makes, all_occurrences}
 
 -- ---- structs
 
@@ -41,7 +41,7 @@ each_invariant f n [] = []
 each_invariant f n (x ∷ xs) = f n x.property ++ each_invariant f (n + formulas x.property) xs
 
 abbrev pub field : List Item → StructTree → FieldTree → FieldInfo
-field items s f = record { name = f.name.name; of = struct_number items s.name; ty = declared_type items f.ty; is_volatile = f.is_volatile; is_ghost = f.is_ghost }
+field items s f = record { name = f.name.name; of = struct_number items s.name; ty = declared_type items f.ty; is_volatile = f.is_volatile; is_ghost = f.is_ghost; is_approved = false }
 
 -- what a wrap makes the owned set of such an object, for a type whose set is fixed
 abbrev pub fixed_set : List Item → StructTree → ℕ → List Spec
@@ -57,6 +57,7 @@ struct items n s = record {
   first_field = fields_before items s.name;
   fields = length (fields s.members);
   invariants = each_invariant (λ k x. spec (around_struct items s) k x ∷ []) n (invariants_of s.members);
+  has_approval = false;
   mine = fixed_set items s n;
 }
 
@@ -133,7 +134,7 @@ abbrev pub variable : List Item → Variable → VariableInfo
 variable items v = record { name = v.name.name; ty = declared_type items v.ty; is_ghost = v.is_ghost }
 
 -- a function, whose first numbers are these
-abbrev pub function : List Item → Before → FunctionTree → FunctionInfo
+abbrev pub function : List Item → Counters → FunctionTree → FunctionInfo
 function items n h = let a = around_function items h in record {
   name = h.name.name;
   value = option_map (declared_type items) h.value;
@@ -148,27 +149,27 @@ function items n h = let a = around_function items h in record {
 
 -- ---- numbers of items
 
-abbrev pub in_item : Item → Before
+abbrev pub in_item : Item → Counters
 in_item (i.Struct s) = some_formulas (struct_formulas (invariants_of s.members))
 in_item (i.Function h) = plus (some_formulas (contract_formulas h.contract)) (in_statements h.body.all)
 
 -- the tables of structs and of functions, of items whose first numbers are these
-abbrev pub struct_table : List Item → Before → List Item → List StructInfo
+abbrev pub struct_table : List Item → Counters → List Item → List StructInfo
 struct_table items n [] = []
 struct_table items n (i.Struct s ∷ more) = struct items n.formulas s ∷ struct_table items (plus n (in_item (i.Struct s))) more
 struct_table items n (i.Function h ∷ more) = struct_table items (plus n (in_item (i.Function h))) more
 
-abbrev pub function_table : List Item → Before → List Item → List FunctionInfo
+abbrev pub function_table : List Item → Counters → List Item → List FunctionInfo
 function_table items n [] = []
 function_table items n (i.Struct s ∷ more) = function_table items (plus n (in_item (i.Struct s))) more
 function_table items n (i.Function h ∷ more) = function items n h ∷ function_table items (plus n (in_item (i.Function h))) more
 
-abbrev pub all_items : List Item → Before
+abbrev pub all_items : List Item → Counters
 all_items [] = none
 all_items (x ∷ xs) = plus (in_item x) (all_items xs)
 
 -- the formulas about `\destroy_claim` are numbered behind all others
-abbrev pub start : List Item → Before
+abbrev pub start : List Item → Counters
 start items = record none { ended = (all_items items).formulas }
 
 -- structs and functions among each other, each by its place in its table
@@ -183,15 +184,15 @@ field_table items = flat_map (λ s. map (field items s) (fields s.members)) (str
 -- ---- what is told, and the shapes of it
 
 -- in a contract, each clause once
-abbrev pub clause_tells : Around → Clause → List Told
-clause_tells a (i.Holds p h x) = Says (spec (in_clause h a) 0 x) ∷ []
-clause_tells a (i.Writes p xs) = map Says (listed_items (in_writes a) 0 xs)
+abbrev pub clause_occurrences : Around → Clause → List Occurrence
+clause_occurrences a (i.Holds p h x) = Says (spec (in_clause h a) 0 x) ∷ []
+clause_occurrences a (i.Writes p xs) = map Says (listed_items (in_writes a) 0 xs)
 
-abbrev pub function_tells : List Item → ℕ → FunctionTree → List Told
-function_tells items f h = let a = around_function items h in flat_map (clause_tells a) h.contract ++ all_tell a f h.body.all
+abbrev pub function_occurrences : List Item → ℕ → FunctionTree → List Occurrence
+function_occurrences items f h = let a = around_function items h in flat_map (clause_occurrences a) h.contract ++ all_occurrences a f h.body.all
 
-abbrev pub struct_tells : List Item → StructTree → List Told
-struct_tells items s = map Says (each_invariant (λ k x. spec (around_struct items s) k x ∷ []) 0 (invariants_of s.members))
+abbrev pub struct_occurrences : List Item → StructTree → List Occurrence
+struct_occurrences items s = map Says (each_invariant (λ k x. spec (around_struct items s) k x ∷ []) 0 (invariants_of s.members))
 
 abbrev pub value_sort : List Item → Option Ty → Sort
 value_sort items None = IntSort
@@ -204,20 +205,20 @@ function_sorts items h = record { variables = map (λ v. sort_of_type (declared_
 abbrev pub no_sorts : Sorts
 no_sorts = record { variables = []; value = IntSort }
 
-abbrev pub told_shapes : Sorts → Told → List Shape
+abbrev pub told_shapes : Sorts → Occurrence → List Shape
 told_shapes s (Says x) = shapes_in s x
 told_shapes s (Makes x) = property_shapes s x.property
 
 -- the shapes of items, of which the first function has number f
 abbrev pub item_shapes : List Item → ℕ → List Item → List Shape
 item_shapes items f [] = []
-item_shapes items f (i.Struct s ∷ more) = flat_map (told_shapes no_sorts) (struct_tells items s) ++ item_shapes items f more
-item_shapes items f (i.Function h ∷ more) = flat_map (told_shapes (function_sorts items h)) (function_tells items f h) ++ item_shapes items (suc f) more
+item_shapes items f (i.Struct s ∷ more) = flat_map (told_shapes no_sorts) (struct_occurrences items s) ++ item_shapes items f more
+item_shapes items f (i.Function h ∷ more) = flat_map (told_shapes (function_sorts items h)) (function_occurrences items f h) ++ item_shapes items (suc f) more
 
 abbrev pub shapes : List Item → List Shape
 shapes items = first_ones [] (item_shapes items 0 items)
 
-abbrev pub sites_told : List Told → List Site
+abbrev pub sites_told : List Occurrence → List Site
 sites_told [] = []
 sites_told (Says x ∷ more) = sites_told more
 sites_told (Makes x ∷ more) = x ∷ sites_told more
@@ -228,7 +229,7 @@ claim_site l s x = record { function = x.function; line = x.line; variables = x.
 abbrev pub site_table : List Shape → List Item → ℕ → List Item → List ClaimSite
 site_table l items f [] = []
 site_table l items f (i.Struct s ∷ more) = site_table l items f more
-site_table l items f (i.Function h ∷ more) = map (claim_site l (function_sorts items h)) (sites_told (function_tells items f h)) ++ site_table l items (suc f) more
+site_table l items f (i.Function h ∷ more) = map (claim_site l (function_sorts items h)) (sites_told (function_occurrences items f h)) ++ site_table l items (suc f) more
 
 -- ---- statements, clauses and structs with numbered shapes
 
@@ -239,7 +240,7 @@ numbered_action l s x = x
 abbrev mutual
   pub numbered_statement : List Shape → Sorts → Stmt → Stmt
   numbered_statement l s (t.Do line x) = t.Do line (numbered_action l s x)
-  numbered_statement l s (t.If line x a b) = t.If line x (numbered_row l s a) (numbered_row l s b)
+  numbered_statement l s (t.If line in_ghost x a b) = t.If line in_ghost x (numbered_row l s a) (numbered_row l s b)
   numbered_statement l s (t.While line is x a) = t.While line (map (numbered l s) is) x (numbered_row l s a)
   numbered_statement l s (t.DoWhile line is a tested x) = t.DoWhile line (map (numbered l s) is) (numbered_row l s a) tested x
   numbered_statement l s (t.Unwrapping line ty q x a) = t.Unwrapping line ty q x (numbered_row l s a)

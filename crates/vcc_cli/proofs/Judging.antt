@@ -1,8 +1,8 @@
 -- The judge's loop.
 use Rattle.std.proofs.Common.{◌≡◌, ℕ, zero, suc, ◌+◌, ◌<◌, ◌≤◌, List, [], ◌∷◌, map, drop, length, get_or, refl, ap, sym, subst, arith, add-one, drop-cons}
 use Rattle.cert_format.specs.declared.certificate.Step.{Step}
-use Rattle.wp_gen.specs.Conditions.{Check, condition}
-use Rattle.wp_gen.specs.Law.{IsValid}
+use Rattle.first_conditions.specs.Conditions.{Check, condition}
+use Rattle.first_conditions.specs.Law.{IsValid}
 use Rattle.std.proofs.Common.{Some, slice_get}
 use Rattle.terms.specs.Formula.{Formula}
 use Rattle.std.proofs.Common.{inl, inr}

@@ -4,10 +4,10 @@ use Rattle.ebnf.specs.Tools.{le_true, true_le}
 use Rattle.c_syntax.specs.declared.token.Span.{Span}
 use Rattle.c_syntax.specs.Items as i
 use Rattle.c_syntax.specs.Items.{Item, Param}
-use Rattle.c_types.specs.First.{IsWellTyped, first_broken}
-use Rattle.c_types.specs.FirstLaws.{first_is_first}
-use Rattle.expr_rules.specs.declared.found.Broken.{Broken}
-use Rattle.expr_rules.specs.Views.{broken, rule}
+use Rattle.typing_spec.specs.First.{IsWellTyped, first_broken}
+use Rattle.typing_spec.specs.FirstLaws.{first_is_first}
+use Rattle.typing_expressions.specs.declared.violations.Violation.{Violation}
+use Rattle.typing_expressions.specs.Views.{broken, rule}
 use Rattle.c_source.specs.Sources.{IsText, IsWithinLimits}
 use Rattle.c_source.proofs.Unique.{one_text}
 use Rattle.first_form.specs.Tree.{Prog, stms_count}
@@ -29,7 +29,7 @@ few_is None p e le = absurd cc
 few_is (Some q) p e le = let same : q ≡ p = cc in ap (λ (b : Bool). cond b (Some q) None) (true_le (stms_count q.body) 200 (subst (λ (r : Prog). stms_count r.body ≤ 200) (sym same) le)) ∙ e
 
 -- a text whose first broken rule is this one
-pub breaks_first : (bytes : List ℕ) (items : List Item) (end : Span) (b : Broken) (text : IsText bytes items end) → IsWithinLimits text → first_broken items end ≡ Some (broken b) → BreaksFirst bytes b
+pub breaks_first : (bytes : List ℕ) (items : List Item) (end : Span) (b : Violation) (text : IsText bytes items end) → IsWithinLimits text → first_broken items end ≡ Some (broken b) → BreaksFirst bytes b
 breaks_first bytes items end b text within e = record { items = items; end = end; text = text; within = within; first = first_is_first items end (rule b.rule) b.span e }
 
 -- a program that a text's items are is the text's

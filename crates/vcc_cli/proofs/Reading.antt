@@ -2,8 +2,8 @@
 use Rattle.std.proofs.Common.{◌≡◌, ◌⊎◌, inl, inr, ℕ, List, Result, Err, refl, subst}
 use Rattle.first_form.specs.Tree.{Prog}
 use Rattle.first_program.specs.Reads.{IsFirstForm}
-use Rattle.wp_gen.specs.Conditions.{checks_of_program}
-use Rattle.wp_gen.specs.Law.{ConditionsMeanSafe}
+use Rattle.first_conditions.specs.Conditions.{checks_of_program}
+use Rattle.first_conditions.specs.Law.{ConditionsMeanSafe}
 use Rattle.vcc_base.specs.Maps.{Map}
 use Rattle.vcc_base.specs.declared.limit.Limit.TheVariants.{SourceBytes}
 use Rattle.vcc_cli.specs.declared.judge.Verdict.{Verdict}

@@ -3,9 +3,9 @@ use Rattle.std.specs.Prelude.{codes}
 use Rattle.std.proofs.Common.{◌≡◌, ◌⊎◌, inl, inr, ℕ, suc, ◌+◌, ◌<◌, ◌≤◌, List, [], ◌∷◌, length, Option, Some, IsNone, Result, Ok, Err, refl, ap, sym, ◌∙◌, subst, arith}
 use Rattle.c_syntax.specs.declared.token.Span.{Span}
 use Rattle.c_syntax.specs.Items.{Item}
-use Rattle.c_types.specs.First.{Breaks}
-use Rattle.expr_rules.specs.declared.found.Broken.{Broken}
-use Rattle.expr_rules.specs.Views.{rule}
+use Rattle.typing_spec.specs.First.{Breaks}
+use Rattle.typing_expressions.specs.declared.violations.Violation.{Violation}
+use Rattle.typing_expressions.specs.Views.{rule}
 use Rattle.c_source.specs.declared.fault.SourceFault.{SourceFault}
 use Rattle.c_source.specs.declared.fault.SourceFault.TheVariants as f
 use Rattle.c_source.specs.Sources.{IsFault}
@@ -14,7 +14,7 @@ use Rattle.first_form.specs.Tree.{Prog}
 use Rattle.first_program.specs.Reads.{IsFirstForm}
 use Rattle.cert_format.specs.declared.certificate.Step.{Step}
 use Rattle.cert_format.specs.Text.{IsCertText}
-use Rattle.wp_gen.specs.Conditions.{Check, checks_of_program}
+use Rattle.first_conditions.specs.Conditions.{Check, checks_of_program}
 use Rattle.vcc_base.specs.Maps.{Map}
 use Rattle.vcc_base.specs.Limits.{number_of}
 use Rattle.vcc_base.specs.declared.limit.Limit.{Limit as AnyLimit}
@@ -205,7 +205,7 @@ cert_yes m name checks cert accepted answer held within text follow (inr found) 
     blocks_yes checks found.cert accepted answer (subst (λ (c : List ℕ). IsCertText c accepted) same text) follow found.judged
 
 -- a source of the form breaks no rule
-broken_form : (source : List ℕ) (b : Broken) (p : Prog) → IsFirstForm source p → BreaksFirst source b → ⊥
+broken_form : (source : List ℕ) (b : Violation) (p : Prog) → IsFirstForm source p → BreaksFirst source b → ⊥
 broken_form source b p form x =
     let same = one_text source x.items form.reads.items x.end form.reads.end x.text form.reads.text in
     let there = subst (λ (xs : List Item). Breaks xs x.end (rule b.rule) b.span) same.0 x.first.is_broken in

@@ -7,8 +7,8 @@ use Rattle.first_program.specs.Reads.{Reads}
 use Rattle.cert_format.specs.declared.certificate.Step.{Step}
 use Rattle.cert_format.specs.Text.{IsCertText}
 use Rattle.refutation_check.specs.Follows.{Follows}
-use Rattle.wp_gen.specs.Law.{IsValid}
-use Rattle.wp_gen.specs.Conditions.{Check, condition, checks_of_program}
+use Rattle.first_conditions.specs.Law.{IsValid}
+use Rattle.first_conditions.specs.Conditions.{Check, condition, checks_of_program}
 
 -- the condition of the check, with its terms numbered from 0, follows by the steps
 pub record FollowsBy (c : Check) (steps : List Step) : Type 0 where

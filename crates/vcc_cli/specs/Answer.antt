@@ -2,10 +2,10 @@
 use Rattle.std.specs.Prelude.{◌≡◌, ◌≢◌, ◌⊎◌, ℕ, ◌+◌, ◌<◌, ◌≤◌, List, [], ◌∷◌, length, Some, IsNone, Result, Ok, Err}
 use Rattle.first_form.specs.Tree.{Prog}
 use Rattle.first_program.specs.Reads.{Reads, IsFirstForm}
-use Rattle.ref_machine.specs.Safe.{Safe}
+use Rattle.first_machine.specs.Safe.{Safe}
 use Rattle.cert_format.specs.declared.certificate.Step.{Step}
 use Rattle.cert_format.specs.Text.{IsCertText}
-use Rattle.wp_gen.specs.Conditions.{Check, checks_of_program}
+use Rattle.first_conditions.specs.Conditions.{Check, checks_of_program}
 use Rattle.vcc_base.specs.Maps.{Map}
 use Rattle.vcc_base.specs.Limits.{number_of}
 use Rattle.vcc_base.specs.declared.limit.Limit.{Limit as AnyLimit}

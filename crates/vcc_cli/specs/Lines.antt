@@ -1,8 +1,8 @@
 -- What is printed for an answer, and its status.
 use Rattle.std.specs.Prelude.{◌≡◌, ◌⊎◌, ℕ, ◌<◌, List, [], ◌∷◌, ◌++◌, Option, Result, Ok, Err, codes, decimal}
 use Rattle.c_syntax.specs.declared.token.Span.{Span}
-use Rattle.c_types.specs.Rules.{number}
-use Rattle.expr_rules.specs.Views.{rule}
+use Rattle.typing_spec.specs.Rules.{number}
+use Rattle.typing_expressions.specs.Views.{rule}
 use Rattle.vcc_base.specs.Maps.{NowWritten, FrontWritten}
 use Rattle.vcc_base.specs.Limits.{number_of, name_of}
 use Rattle.vcc_cli.specs.declared.judge.Verdict.{Verdict}

@@ -2,9 +2,9 @@
 use Rattle.std.specs.Prelude.{ℕ, List}
 use Rattle.c_syntax.specs.declared.token.Span.{Span}
 use Rattle.c_syntax.specs.Items.{Item}
-use Rattle.c_types.specs.First.{IsFirstBroken, IsWellTyped}
-use Rattle.expr_rules.specs.declared.found.Broken.{Broken}
-use Rattle.expr_rules.specs.Views.{rule}
+use Rattle.typing_spec.specs.First.{IsFirstBroken, IsWellTyped}
+use Rattle.typing_expressions.specs.declared.violations.Violation.{Violation}
+use Rattle.typing_expressions.specs.Views.{rule}
 use Rattle.c_source.specs.declared.fault.SourceFault.TheVariants as f
 use Rattle.c_source.specs.Sources.{IsText, IsWithinLimits, IsFault}
 use Rattle.first_form.specs.Tree.{Prog}
@@ -14,7 +14,7 @@ use Rattle.vcc_cli.specs.declared.refusal.Refusal.{Refusal}
 use Rattle.vcc_cli.specs.declared.refusal.Refusal.TheVariants.{BadByte, BadNumber, OpenComment, Unexpected, UnknownForm, BreaksRule, NotBuilt, Limit, OutOfMemory}
 
 -- the bytes are items of the language, within the limits, and this rule is the first that they break, at this place
-pub record BreaksFirst (source : List ℕ) (b : Broken) : Type 0 where
+pub record BreaksFirst (source : List ℕ) (b : Violation) : Type 0 where
   pub items : List Item
   pub end : Span
   pub text : IsText source items end

@@ -4,7 +4,7 @@ ghost use Rattle.std.specs.Prelude.{◌≡◌, ◌<◌, ◌≤◌, length, IfOk,
 ghost use Rattle.vcc_base.specs.Limits.{number_of};
 ghost use Rattle.vcc_base.specs.Maps.{Map};
 ghost use Rattle.first_form.specs.Tree.{program as read_as};
-ghost use Rattle.wp_gen.specs.Conditions.{checks_of_program};
+ghost use Rattle.first_conditions.specs.Conditions.{checks_of_program};
 ghost use Rattle.vcc_cli.specs.Accepts.{AllValid};
 ghost use Rattle.vcc_cli.specs.Answer.{HoldsWithin, IsCertAnswer, IsCheckAnswer, IsSafeAnswer, IsUnread};
 ghost use Rattle.vcc_cli.specs.Faults.{IsReadFault};
@@ -13,12 +13,12 @@ use crate::judge::{Verdict, judge_blocks};
 use crate::program::read_program;
 use crate::refusal::Refusal;
 use cert_format::decode::{CertFault, decode};
+use first_conditions::law::conditions_mean_safe;
 use first_form::tree::Program;
 use std::alloc::Global;
 use vcc_base::limit::Limit;
 use vcc_base::store::Store;
 use vcc_base::whole::{ReadFault, read_whole};
-use wp_gen::law::conditions_mean_safe;
 
 /// All bytes of the name.
 fn read<'a, S: Store>(

@@ -2,20 +2,20 @@
 
 ghost use Rattle.std.specs.Prelude.{◌≡◌, ◌↔◌, ℕ, length, IsTrue, IfOk, Ok, map};
 ghost use Rattle.first_form.specs.Tree.{program as read_as};
-ghost use Rattle.wp_gen.specs.Facts.{check_of};
-ghost use Rattle.wp_gen.specs.Conditions as conditions;
-ghost use Rattle.wp_gen.specs.Law.{IsValid};
+ghost use Rattle.first_conditions.specs.Facts.{check_of};
+ghost use Rattle.first_conditions.specs.Conditions as conditions;
+ghost use Rattle.first_conditions.specs.Law.{IsValid};
 ghost use Rattle.vcc_cli.specs.Accepts.{AllFollow, AllValid, FollowsBy};
 ghost use Rattle.vcc_cli.specs.Answer.{AreJudged, FirstNot};
 ghost use Rattle.vcc_cli.specs.Verdicts.{IsVerdict};
 
 use crate::refusal::Refusal;
 use cert_format::certificate::Refutation;
+use first_conditions::condition::{checks, condition_of};
+use first_conditions::walk::Check;
 use first_form::tree::Program;
 use refutation_check::check_one;
 use std::alloc::{AllocError, Global};
-use wp_gen::condition::{checks, condition_of};
-use wp_gen::walk::Check;
 
 /// The label of a check of main: its number among the checks, from 1, and its line.
 #[derive(Clone, Copy, Debug, PartialEq, Eq)]

@@ -2,7 +2,7 @@
 
 ghost use Rattle.std.specs.Prelude.{◌≡◌, ◌≤◌, ℕ, ◌<◌, List, length, IfOk, IfErr, OnOk};
 ghost use Rattle.c_syntax.specs.Views.{items_of};
-ghost use Rattle.c_types.specs.First.{IsWellTyped};
+ghost use Rattle.typing_spec.specs.First.{IsWellTyped};
 ghost use Rattle.c_source.specs.Sources.{IsFaultOrMemory, IsText, IsWithinLimits};
 ghost use Rattle.tree_heights.specs.Parts.{parts};
 ghost use Rattle.first_form.specs.Tree.{Prog, program as read_as};
@@ -13,10 +13,10 @@ use crate::refusal::Refusal;
 use c_reader::read_source;
 use c_source::fault::SourceFault;
 use c_syntax::items::Tree;
+use c_types::typing::{TypeFault, type_program};
 use first_form::tree::Program;
 use first_program::fault::FormFault;
 use first_program::program_of;
-use source_typing::typing::{TypeFault, type_program};
 use std::alloc::Global;
 use vcc_base::limit::Limit;
 

@@ -1,7 +1,7 @@
 //! Why a command gives no verdict.
 
 use c_syntax::token::Span;
-use expr_rules::found::Broken;
+use typing_expressions::violations::Violation;
 use vcc_base::limit::Limit;
 
 /// Why a command gives no verdict.
@@ -20,7 +20,7 @@ pub enum Refusal<'a> {
     /// A word behind `_(` that is a form nowhere.
     UnknownForm(Span),
     /// The first typing rule that the source breaks.
-    BreaksRule(Broken),
+    BreaksRule(Violation),
     /// The source isn't of the form that is built so far.
     NotBuilt,
     /// The certificate isn't well formed, or has another number of blocks than there are conditions.

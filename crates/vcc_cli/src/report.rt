@@ -1,8 +1,8 @@
 //! What the program prints, and its status.
 
 ghost use Rattle.std.specs.Prelude.{◌≡◌, ◌<◌, ◌≤◌, ◌++◌, OnOk, OnErr, IsErrOf, codes, decimal};
-ghost use Rattle.c_types.specs.Rules.{number as number_of_rule};
-ghost use Rattle.expr_rules.specs.Views.{rule};
+ghost use Rattle.typing_spec.specs.Rules.{number as number_of_rule};
+ghost use Rattle.typing_expressions.specs.Views.{rule};
 ghost use Rattle.vcc_base.specs.Maps.{NowWritten, FrontWritten};
 ghost use Rattle.vcc_base.specs.Limits.{number_of, name_of};
 ghost use Rattle.vcc_cli.specs.Lines.{IsReported, line, line_of, place_text, source_line, status_of};
@@ -10,7 +10,7 @@ ghost use Rattle.vcc_cli.specs.Lines.{IsReported, line, line_of, place_text, sou
 use crate::judge::{Label, Verdict};
 use crate::refusal::Refusal;
 use c_syntax::token::Span;
-use expr_rules::found::Broken;
+use typing_expressions::violations::Violation;
 use vcc_base::limit::Limit;
 use vcc_base::sink::{Sink, SinkFault};
 use vcc_base::whole::{put_all, put_number};
@@ -99,7 +99,7 @@ fn put_fault<O: Sink>(out: &mut O, place: Span, stage: &[u8], number: u64) -> Re
 }
 
 /// The line of a broken typing rule: its place and its number.
-fn put_broken<O: Sink>(out: &mut O, broken: Broken) -> Result<(), SinkFault>
+fn put_broken<O: Sink>(out: &mut O, broken: Violation) -> Result<(), SinkFault>
     ensures ok { OnOk result (NowWritten (O.written out.old) (O.written out.new) (source_line broken.span (codes "rule") (number_of_rule (rule broken.rule)))) }
     ensures err { OnErr result (FrontWritten (O.written out.old) (O.written out.new) (source_line broken.span (codes "rule") (number_of_rule (rule broken.rule)))) }
     ensures failed { IsErrOf result SinkFault.Failed → O.faults out.old < O.faults out.new }

@@ -106,17 +106,17 @@ name_is text name n run b e none = (sym e, name_text text n run b, λ key k. non
 -- ---- spec words
 
 -- a run behind the first byte
-pub record IsSpecRun (text behind : List ℕ) (n : ℕ) : Type 0 where
+pub record IsSpecRun (text place_after : List ℕ) (n : ℕ) : Type 0 where
   pub backslash : get_or text 0 0 ≡ 92
   pub letter : is_letter (get_or text 1 0) ≡ true
-  pub cut : behind ≡ drop 1 text
-  pub run : IsRun c.NameByte behind n
+  pub cut : place_after ≡ drop 1 text
+  pub run : IsRun c.NameByte place_after n
 
-behind_at : (text behind : List ℕ) (k : ℕ) → behind ≡ drop 1 text → get_or behind k 0 ≡ get_or text (k + 1) 0
-behind_at text behind k e = ap (λ (w : List ℕ). get_or w k 0) e ∙ get_or-drop 1 text k 0 ∙ ap (λ i. get_or text i 0) (add_comm 1 k)
+behind_at : (text place_after : List ℕ) (k : ℕ) → place_after ≡ drop 1 text → get_or place_after k 0 ≡ get_or text (k + 1) 0
+behind_at text place_after k e = ap (λ (w : List ℕ). get_or w k 0) e ∙ get_or-drop 1 text k 0 ∙ ap (λ i. get_or text i 0) (add_comm 1 k)
 
-behind_begins : (text behind : List ℕ) (n : ℕ) → IsSpecRun text behind n → begins_name (get_or behind 0 0) ≡ true
-behind_begins text behind n h = ap begins_name (behind_at text behind 0 h.cut) ∙ letter_begins (get_or text 1 0) h.letter
+behind_begins : (text place_after : List ℕ) (n : ℕ) → IsSpecRun text place_after n → begins_name (get_or place_after 0 0) ≡ true
+behind_begins text place_after n h = ap begins_name (behind_at text place_after 0 h.cut) ∙ letter_begins (get_or text 1 0) h.letter
 
 some_text : (text : List ℕ) → get_or text 0 0 ≡ 92 → text ≡ 92 ∷ drop 1 text
 some_text [] e = absurd (omega arith)
@@ -125,14 +125,14 @@ some_text (b ∷ rest) e = ap (λ x. x ∷ rest) e
 take_suc : (n b : ℕ) (rest : List ℕ) → take (n + 1) (b ∷ rest) ≡ b ∷ take n rest
 take_suc n b rest = ap (λ k. take k (b ∷ rest)) (add-one n)
 
-pub spec_front : (text behind : List ℕ) (n : ℕ) → IsSpecRun text behind n → take (n + 1) text ≡ 92 ∷ take n behind
-spec_front text behind n h = ap (λ (w : List ℕ). take (n + 1) w) (some_text text h.backslash) ∙ take_suc n 92 (drop 1 text) ∙ ap (λ (w : List ℕ). 92 ∷ take n w) (sym h.cut)
+pub spec_front : (text place_after : List ℕ) (n : ℕ) → IsSpecRun text place_after n → take (n + 1) text ≡ 92 ∷ take n place_after
+spec_front text place_after n h = ap (λ (w : List ℕ). take (n + 1) w) (some_text text h.backslash) ∙ take_suc n 92 (drop 1 text) ∙ ap (λ (w : List ℕ). 92 ∷ take n w) (sym h.cut)
 
-pub spec_taken : (text behind : List ℕ) (n : ℕ) (word : Word) → IsSpecRun text behind n → IsToken word (take (n + 1) text) → IsTaken text word (n + 1)
-spec_taken text behind n word h is = record { longest = record { within = within; is = inl (word, is); longest = λ m lt le x. go m lt le (form_of (take m text) x) }; is = is }
+pub spec_taken : (text place_after : List ℕ) (n : ℕ) (word : Word) → IsSpecRun text place_after n → IsToken word (take (n + 1) text) → IsTaken text word (n + 1)
+spec_taken text place_after n word h is = record { longest = record { within = within; is = inl (word, is); longest = λ m lt le x. go m lt le (form_of (take m text) x) }; is = is }
   where
     pos : 0 < n
-    pos = name_run behind n h.run (behind_begins text behind n h)
+    pos = name_run place_after n h.run (behind_begins text place_after n h)
 
     within : n + 1 ≤ length text
     within = omega (arith, pos, h.run.within, ap length h.cut, length-drop 1 text)
@@ -144,21 +144,21 @@ spec_taken text behind n word h is = record { longest = record { within = within
     go m lt le (f.named b all some) = slash_no_name (get_or (take m text) 0 0) (at m (omega arith)) b
     go m lt le (f.spec e letter some all) =
         let yes' : is_name_byte (get_or text (n + 1) 0) ≡ true = sym (ap is_name_byte (get_or-take m text (n + 1) 0 lt)) ∙ all (n + 1) (omega arith) (omega (arith, length-take-le m text le)) in
-        let stop : is_name_byte (get_or text (n + 1) 0) ≡ false = sym (ap is_name_byte (behind_at text behind n h.cut)) ∙ h.run.ends (omega (arith, ap length h.cut, length-drop 1 text)) in
+        let stop : is_name_byte (get_or text (n + 1) 0) ≡ false = sym (ap is_name_byte (behind_at text place_after n h.cut)) ∙ h.run.ends (omega (arith, ap length h.cut, length-drop 1 text)) in
         absurd cc
     go m lt le (f.mark y e) = (first_of y).backslash (sym (ap (λ (w : List ℕ). get_or w 0 0) e) ∙ at m (omega arith))
     go m lt le (f.shape base digits letters x) = digit_no_slash (get_or (take m text) 0 0) (shape_digit base digits letters (take m text) x) (at m (omega arith))
 
-pub spec_is : (text behind name : List ℕ) (n : ℕ) (w : SpecWord) → IsSpecRun text behind n → name ≡ take n behind → spec_word_text w ≡ name → IsToken (t.Spec w) (take (n + 1) text)
-spec_is text behind name n w h e k = spec_front text behind n h ∙ ap (λ (x : List ℕ). 92 ∷ x) (sym e ∙ sym k)
+pub spec_is : (text place_after name : List ℕ) (n : ℕ) (w : SpecWord) → IsSpecRun text place_after n → name ≡ take n place_after → spec_word_text w ≡ name → IsToken (t.Spec w) (take (n + 1) text)
+spec_is text place_after name n w h e k = spec_front text place_after n h ∙ ap (λ (x : List ℕ). 92 ∷ x) (sym e ∙ sym k)
 
-pub other_is : (text behind name : List ℕ) (n : ℕ) → IsSpecRun text behind n → name ≡ take n behind → ((w : SpecWord) → spec_word_text w ≢ name) → IsToken t.OtherSpec (take (n + 1) text)
-other_is text behind name n h e none = (
-  take n behind,
+pub other_is : (text place_after name : List ℕ) (n : ℕ) → IsSpecRun text place_after n → name ≡ take n place_after → ((w : SpecWord) → spec_word_text w ≢ name) → IsToken t.OtherSpec (take (n + 1) text)
+other_is text place_after name n h e none = (
+  take n place_after,
   record {
-    whole = spec_front text behind n h;
-    begins = ap is_letter (get_or-take n behind 0 0 (name_run behind n h.run (behind_begins text behind n h)) ∙ behind_at text behind 0 h.cut) ∙ h.letter;
-    is_name = name_text behind n h.run (behind_begins text behind n h);
+    whole = spec_front text place_after n h;
+    begins = ap is_letter (get_or-take n place_after 0 0 (name_run place_after n h.run (behind_begins text place_after n h)) ∙ behind_at text place_after 0 h.cut) ∙ h.letter;
+    is_name = name_text place_after n h.run (behind_begins text place_after n h);
   },
   λ w k. none w (k ∙ sym e),
 )

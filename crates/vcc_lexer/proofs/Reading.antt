@@ -9,7 +9,7 @@ use Rattle.c_syntax.specs.declared.fault.LexFault.TheVariants as f
 use Rattle.c_syntax.specs.Tokens as t
 use Rattle.c_syntax.specs.Tokens.{Word, IsToken, IsLexical, IsLongest, begins_name}
 use Rattle.c_syntax.specs.Lexing as l
-use Rattle.c_syntax.specs.Lexing.{Position, Lexeme, Skips, IsFirst, Reaches, Lexes, IsFault, IsFirstFault, IsFirstOrMemory, AreOrMemory, FailsOrMemory, HasNoEnd, behind, first_position, lexeme_at, most_tokens}
+use Rattle.c_syntax.specs.Lexing.{Position, Lexeme, Skips, IsFirst, Reaches, Lexes, IsFault, IsFirstFault, IsFirstOrMemory, AreOrMemory, FailsOrMemory, HasNoEnd, place_after, first_position, lexeme_at, most_tokens}
 use Rattle.c_syntax.specs.Words.{sign_text}
 use Rattle.c_syntax.specs.Numbers.{is_digit}
 use Rattle.std.proofs.lemmas.Bool.Decides.{nat_tests}
@@ -40,8 +40,8 @@ either_on : (x : Lexeme) (ts us : List Lexeme) (q q' : Position) (rest rest' : L
 either_on x ts us q q' rest rest' (inl g) = inl (goes_on x ts us q q' rest rest' g)
 either_on x ts us q q' rest rest' (inr g) = inr (goes_on x us ts q' q rest' rest g)
 
-same_place : (p q : Position) (text rest : List ℕ) (us : List Lexeme) (n m : ℕ) → n ≡ m → Reaches (behind (take m text) p) (drop m text) us q rest → Reaches (behind (take n text) p) (drop n text) us q rest
-same_place p q text rest us n m e d = subst (λ k. Reaches (behind (take k text) p) (drop k text) us q rest) (sym e) d
+same_place : (p q : Position) (text rest : List ℕ) (us : List Lexeme) (n m : ℕ) → n ≡ m → Reaches (place_after (take m text) p) (drop m text) us q rest → Reaches (place_after (take n text) p) (drop n text) us q rest
+same_place p q text rest us n m e d = subst (λ k. Reaches (place_after (take k text) p) (drop k text) us q rest) (sym e) d
 
 same_lexeme : (p : Position) (a b : Word) (n m : ℕ) → a ≡ b → n ≡ m → lexeme_at p a n ≡ lexeme_at p b m
 same_lexeme p a b n m e h = ap (λ w. lexeme_at p w n) e ∙ ap (λ k. lexeme_at p b k) h
@@ -243,16 +243,16 @@ first_fault X bytes f.OutOfMemory b h y = tt
 
 -- ---- one step on
 
-pub skipped_on : (bytes text : List ℕ) (p : Position) (ts : List Lexeme) (n : ℕ) → Reaches first_position bytes ts p text → Skips p text n → Reaches first_position bytes ts (behind (take n text) p) (drop n text)
-skipped_on bytes text p ts n r skips = subst (λ (w : List Lexeme). Reaches first_position bytes w (behind (take n text) p) (drop n text)) (append-nil ts) (then_reaches r (behind (take n text) p) (drop n text) [] (l.skip skips l.here))
+pub skipped_on : (bytes text : List ℕ) (p : Position) (ts : List Lexeme) (n : ℕ) → Reaches first_position bytes ts p text → Skips p text n → Reaches first_position bytes ts (place_after (take n text) p) (drop n text)
+skipped_on bytes text p ts n r skips = subst (λ (w : List Lexeme). Reaches first_position bytes w (place_after (take n text) p) (drop n text)) (append-nil ts) (then_reaches r (place_after (take n text) p) (drop n text) [] (l.skip skips l.here))
 
-pub token_on : (bytes text : List ℕ) (p : Position) (ts : List Lexeme) (word : Word) (n : ℕ) → Reaches first_position bytes ts p text → IsFirst text word n → Reaches first_position bytes (ts ++ lexeme_at p word n ∷ []) (behind (take n text) p) (drop n text)
-token_on bytes text p ts word n r first = then_reaches r (behind (take n text) p) (drop n text) (lexeme_at p word n ∷ []) (l.token first l.here)
+pub token_on : (bytes text : List ℕ) (p : Position) (ts : List Lexeme) (word : Word) (n : ℕ) → Reaches first_position bytes ts p text → IsFirst text word n → Reaches first_position bytes (ts ++ lexeme_at p word n ∷ []) (place_after (take n text) p) (drop n text)
+token_on bytes text p ts word n r first = then_reaches r (place_after (take n text) p) (drop n text) (lexeme_at p word n ∷ []) (l.token first l.here)
 
 -- the same, with the text and the place as the code has them
-pub moved_to : (bytes text front back : List ℕ) (p q : Position) (ts : List Lexeme) (n : ℕ) → front ≡ take n text → back ≡ drop n text → q ≡ behind front p → Reaches first_position bytes ts (behind (take n text) p) (drop n text) → Reaches first_position bytes ts q back
+pub moved_to : (bytes text front back : List ℕ) (p q : Position) (ts : List Lexeme) (n : ℕ) → front ≡ take n text → back ≡ drop n text → q ≡ place_after front p → Reaches first_position bytes ts (place_after (take n text) p) (drop n text) → Reaches first_position bytes ts q back
 moved_to bytes text front back p q ts n f b e r =
-    let at : q ≡ behind (take n text) p = e ∙ ap (λ (w : List ℕ). behind w p) f in
+    let at : q ≡ place_after (take n text) p = e ∙ ap (λ (w : List ℕ). place_after w p) f in
     subst (λ (w : List ℕ). Reaches first_position bytes ts q w) (sym b) (subst (λ x. Reaches first_position bytes ts x (drop n text)) (sym at) r)
 
 pub token_some : (text : List ℕ) (word : Word) (n : ℕ) → IsFirst text word n → 0 < n

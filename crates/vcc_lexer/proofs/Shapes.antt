@@ -237,11 +237,11 @@ number_refused base d l text h none = (
 
 -- ---- the same, with the parts as the code cuts them
 
-pub digits_cut : (base : n.Base) (d p : ℕ) (text behind digits : List ℕ) → p ≡ length (prefix base) → behind ≡ drop p text → digits ≡ take d behind → digits ≡ digits_in base d text
-digits_cut base d p text behind digits e b c = c ∙ ap (λ (w : List ℕ). take d w) (b ∙ ap (λ k. drop k text) e)
+pub digits_cut : (base : n.Base) (d p : ℕ) (text place_after digits : List ℕ) → p ≡ length (prefix base) → place_after ≡ drop p text → digits ≡ take d place_after → digits ≡ digits_in base d text
+digits_cut base d p text place_after digits e b c = c ∙ ap (λ (w : List ℕ). take d w) (b ∙ ap (λ k. drop k text) e)
 
-pub letters_cut : (base : n.Base) (d l p : ℕ) (text behind rest letters : List ℕ) → p ≡ length (prefix base) → behind ≡ drop p text → rest ≡ drop d behind → letters ≡ take l rest → letters ≡ letters_in base d l text
-letters_cut base d l p text behind rest letters e b r c = c ∙ ap (λ (w : List ℕ). take l w) (r ∙ ap (λ (w : List ℕ). drop d w) (b ∙ ap (λ k. drop k text) e) ∙ drop-drop d (length (prefix base)) text)
+pub letters_cut : (base : n.Base) (d l p : ℕ) (text place_after rest letters : List ℕ) → p ≡ length (prefix base) → place_after ≡ drop p text → rest ≡ drop d place_after → letters ≡ take l rest → letters ≡ letters_in base d l text
+letters_cut base d l p text place_after rest letters e b r c = c ∙ ap (λ (w : List ℕ). take l w) (r ∙ ap (λ (w : List ℕ). drop d w) (b ∙ ap (λ k. drop k text) e) ∙ drop-drop d (length (prefix base)) text)
 
 pub writes_cut : (base : n.Base) (digits letters digits' letters' : List ℕ) (v : ℕ) (ty : CType) → digits ≡ digits' → letters ≡ letters' → Writes base digits letters v ty → Writes base digits' letters' v ty
 writes_cut base digits letters digits' letters' v ty e f w = subst (λ (x : List ℕ). Writes base digits' x v ty) f (subst (λ (x : List ℕ). Writes base x letters v ty) e w)

@@ -6,7 +6,7 @@ use Rattle.std.proofs.lemmas.List.Elements.{All-nil, All-cons, All-append}
 use Rattle.c_syntax.specs.Tokens as t
 use Rattle.c_syntax.specs.Tokens.{Word, IsToken}
 use Rattle.c_syntax.specs.Lexing as l
-use Rattle.c_syntax.specs.Lexing.{Position, Lexeme, Skips, IsFirst, Reaches, Lexes, at, behind, behind_byte, first_position, lexeme_at}
+use Rattle.c_syntax.specs.Lexing.{Position, Lexeme, Skips, IsFirst, Reaches, Lexes, at, place_after, behind_byte, first_position, lexeme_at}
 use Rattle.vcc_lexer.specs.Texts.{HaveTexts}
 
 -- ---- how many bytes are before a place
@@ -15,7 +15,7 @@ chosen : (test : Bool) (p : Position) → (if test then at (p.offset + 1) (p.pla
 chosen true p = refl
 chosen false p = refl
 
-offset_behind : (text : List ℕ) (p : Position) → (behind text p).offset ≡ p.offset + length text
+offset_behind : (text : List ℕ) (p : Position) → (place_after text p).offset ≡ p.offset + length text
 offset_behind [] p = omega arith
 offset_behind (b ∷ text) p =
     let one : (behind_byte b p).offset ≡ p.offset + 1 = chosen (b == 10) p in
@@ -33,7 +33,7 @@ slice before text n = drop-take (length before) n (before ++ text) ∙ ap (λ (w
 onward : (before text : List ℕ) (n : ℕ) → (before ++ take n text) ++ drop n text ≡ before ++ text
 onward before text n = append_assoc before (take n text) (drop n text) ∙ ap (λ (w : List ℕ). before ++ w) (take-append-drop n text)
 
-count_on : (before text : List ℕ) (p : Position) (n : ℕ) → p.offset ≡ length before → (behind (take n text) p).offset ≡ length (before ++ take n text)
+count_on : (before text : List ℕ) (p : Position) (n : ℕ) → p.offset ≡ length before → (place_after (take n text) p).offset ≡ length (before ++ take n text)
 count_on before text p n e = omega (arith, offset_behind (take n text) p, length-append before (take n text))
 
 texts_from : {p q : Position} {text rest : List ℕ} {ts : List Lexeme} (bytes before : List ℕ) → bytes ≡ before ++ text → p.offset ≡ length before → Reaches p text ts q rest → All (HasText bytes) ts

@@ -43,9 +43,9 @@ fn first_spec_word(text: &[u8]) -> (TokenKind<'_>, usize)
     requires letter { is_letter (slice_index text.now 1) ≡ true }
     ensures { IsTaken text.now (word_of result.0) result.1 }
 {
-    let (_, behind) = text.split_at(1);
-    let length = run(Class::NameByte, behind);
-    let (name, _) = behind.split_at(length);
+    let (_, place_after) = text.split_at(1);
+    let length = run(Class::NameByte, place_after);
+    let (name, _) = place_after.split_at(length);
     match spec_word(name) {
         Some(word) => (TokenKind::SpecWord(word), length + 1),
         None => (TokenKind::OtherSpecWord, length + 1),

@@ -61,10 +61,10 @@ fn include(column: u32, text: &[u8]) -> Gap
     if column != 1 {
         return Gap::Nothing;
     }
-    let Some(behind) = text.strip_prefix(b"#include <vcc.h>") else {
+    let Some(place_after) = text.strip_prefix(b"#include <vcc.h>") else {
         return Gap::Nothing;
     };
-    if !ends_line(behind) {
+    if !ends_line(place_after) {
         return Gap::Nothing;
     }
     Gap::Skipped(16)

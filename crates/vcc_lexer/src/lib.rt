@@ -10,7 +10,7 @@ ghost use Rattle.vcc_lexer.specs.Texts.{HaveTexts};
 
 use crate::first::{BadFront, first_token};
 use crate::gaps::{Gap, first_gap};
-use crate::place::{Place, behind};
+use crate::place::{Place, place_after};
 use c_syntax::fault::LexFault;
 use c_syntax::token::{Span, Token, TokenKind};
 use std::alloc::Global;
@@ -108,7 +108,7 @@ pub fn tokens(alloc: Global, bytes: &[u8]) -> Result<Vec<Token<'_>>, LexFault>
             Err(fault) => return Err(fault),
         };
         let (text, behind_text) = rest.split_at(step.length);
-        place = behind(text, place);
+        place = place_after(text, place);
         rest = behind_text;
         let Some(token) = step.token else {
             continue;

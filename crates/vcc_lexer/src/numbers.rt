@@ -79,9 +79,9 @@ fn count(base: Base, text: &[u8]) -> Counts
     ensures base { result.base ≡ base }
     ensures runs { HasRuns (base_of base) result.digits result.letters text.now }
 {
-    let (_, behind) = text.split_at(prefix_length(base));
-    let digits = run(digit_class(base), behind);
-    let (_, rest) = behind.split_at(digits);
+    let (_, place_after) = text.split_at(prefix_length(base));
+    let digits = run(digit_class(base), place_after);
+    let (_, rest) = place_after.split_at(digits);
     let letters = run(Class::Letter, rest);
     Counts {
         base,
@@ -270,8 +270,8 @@ pub fn first_number(text: &[u8]) -> Option<(TokenKind<'_>, usize)>
 {
     let counts = number_counts(text);
     let prefix = prefix_length(counts.base);
-    let (_, behind) = text.split_at(prefix);
-    let (digits, rest) = behind.split_at(counts.digits);
+    let (_, place_after) = text.split_at(prefix);
+    let (digits, rest) = place_after.split_at(counts.digits);
     let (letters, _) = rest.split_at(counts.letters);
     let Some((value, ty)) = value_of(counts.base, digits, letters) else {
         return None;

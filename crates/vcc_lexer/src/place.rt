@@ -39,12 +39,12 @@ fn behind_byte(byte: u8, from: Place) -> Place
 }
 
 /// The place behind a text.
-pub fn behind(text: &[u8], from: Place) -> Place
+pub fn place_after(text: &[u8], from: Place) -> Place
     requires offset { from.offset + length text.now ≤ 4294967295 }
     requires line { from.span.line + length text.now ≤ 4294967295 }
     requires column { from.span.column + length text.now ≤ 4294967295 }
     requires counted { 0 < from.span.column }
-    ensures { position result ≡ lexing.behind text.now (position from) }
+    ensures { position result ≡ lexing.place_after text.now (position from) }
 {
     let mut place = from;
     for byte in text {

@@ -1,8 +1,13 @@
 //! The heaps, the variables and the program of the tables.
 
-use super::notation::{Unread, read};
+use crate::changes::{Change, heap_of};
+use crate::notation::Unread;
+use crate::programs::{ShapeRow, program};
+use Change::{Conjunct, Count, List, Own, Status, Write};
+use Mode::{Closed, Freed, Open};
+use Value::Int;
 use int_ranges::ctype::CType;
-use method::program::{DeclaredType, FieldInfo, Program, Shape, Sort, Spec};
+use method::program::{DeclaredType, Program, Sort, Spec};
 use object_types::heap::Heap;
 use object_types::records::Mode;
 use object_types::references::{NULL, Ref};
@@ -44,129 +49,91 @@ const N: u32 = 0;
 const P: u32 = 1;
 
 /// The heap at the function's entry.
-fn before(alloc: Global) -> Result<Heap, AllocError> {
-    let mut heap = Heap::empty(alloc);
-    for (o, mode, owner, n) in [
-        (A, Mode::Open, OTHER, 4),
-        (B, Mode::Closed, ME, 10),
-        (C, Mode::Closed, A, -3),
-        (W, Mode::Closed, ME, 0),
-    ] {
-        heap.set_status(o, mode, owner)?;
-        heap.write(o, N, Value::Int(n))?;
-    }
-    heap.set_owned(A, B, true)?;
-    heap.set_count(B, 1)?;
-    Ok(heap)
-}
-
-/// The heap now, but for what the claim was made with.
-fn objects(alloc: Global) -> Result<Heap, AllocError> {
-    let mut heap = Heap::empty(alloc);
-    for (o, mode, owner, n) in [
-        (A, Mode::Closed, ME, 5),
-        (B, Mode::Closed, A, 10),
-        (C, Mode::Closed, A, -3),
-        (D, Mode::Closed, A, i128::MAX),
-        (K, Mode::Closed, ME, 0),
-        (O, Mode::Open, ME, 0),
-        (W, Mode::Closed, ME, 0),
-        (F, Mode::Freed, NULL, 0),
-        (G, Mode::Open, OTHER, 0),
-    ] {
-        heap.set_status(o, mode, owner)?;
-        heap.write(o, N, Value::Int(n))?;
-    }
-    heap.write(A, P, Value::Ref(B))?;
-    for member in [B, C, D] {
-        heap.set_owned(A, member, true)?;
-    }
-    heap.set_count(B, 2)?;
-    heap.set_count(W, 1)?;
-    Ok(heap)
-}
+const BEFORE: &[Change<'static>] = &[
+    Status(A, Open, OTHER),
+    Write(A, N, Int(4)),
+    Status(B, Closed, ME),
+    Write(B, N, Int(10)),
+    Status(C, Closed, A),
+    Write(C, N, Int(-3)),
+    Status(W, Closed, ME),
+    Write(W, N, Int(0)),
+    Own(A, B, true),
+    Count(B, 1),
+];
 
 /// The heap now. The claim claims B and W.
-fn after(alloc: Global) -> Result<Heap, AllocError> {
-    let mut heap = objects(alloc)?;
-    heap.set_listed(K, B, true)?;
-    heap.set_listed(K, W, true)?;
-    heap.set_shape(K, 0, &[Value::Ref(B), Value::Int(7)], true)?;
-    heap.set_shape(K, 1, &[Value::Ref(ME), Value::Ref(A), Value::Int(42)], true)?;
-    heap.set_shape(K, 2, &[Value::Ref(C)], true)?;
-    Ok(heap)
-}
+const AFTER: &[Change<'static>] = &[
+    Status(A, Closed, ME),
+    Write(A, N, Int(5)),
+    Status(B, Closed, A),
+    Write(B, N, Int(10)),
+    Status(C, Closed, A),
+    Write(C, N, Int(-3)),
+    Status(D, Closed, A),
+    Write(D, N, Int(i128::MAX)),
+    Status(K, Closed, ME),
+    Write(K, N, Int(0)),
+    Status(O, Open, ME),
+    Write(O, N, Int(0)),
+    Status(W, Closed, ME),
+    Write(W, N, Int(0)),
+    Status(F, Freed, NULL),
+    Write(F, N, Int(0)),
+    Status(G, Open, OTHER),
+    Write(G, N, Int(0)),
+    Write(A, P, Value::Ref(B)),
+    Own(A, B, true),
+    Own(A, C, true),
+    Own(A, D, true),
+    Count(B, 2),
+    Count(W, 1),
+    List(K, B, true),
+    List(K, W, true),
+    Conjunct(K, 0, &[Value::Ref(B), Int(7)], true),
+    Conjunct(K, 1, &[Value::Ref(ME), Value::Ref(A), Int(42)], true),
+    Conjunct(K, 2, &[Value::Ref(C)], true),
+];
 
-/// A function with the parameters x and p, and variables of its own.
+/// The variables of a function with the parameters x and p, and their values at its entry.
+const LOCALS: &[Value] = &[
+    Int(7),
+    Value::Ref(A),
+    Int(100),
+    Int(i128::MAX),
+    Int(i128::MIN),
+    Value::Ref(A),
+    Value::Ref(B),
+    Value::Ref(C),
+    Value::Ref(D),
+    Value::Ref(K),
+    Value::Ref(O),
+    Value::Ref(W),
+    Value::Ref(F),
+    Value::Ref(G),
+];
+
+const ENTRY: &[Value] = &[Int(6), Value::Ref(B)];
+
 fn env(alloc: Global) -> Result<Env, AllocError> {
-    let locals = Vec::from_slice(
-        alloc,
-        &[
-            Value::Int(7),
-            Value::Ref(A),
-            Value::Int(100),
-            Value::Int(i128::MAX),
-            Value::Int(i128::MIN),
-            Value::Ref(A),
-            Value::Ref(B),
-            Value::Ref(C),
-            Value::Ref(D),
-            Value::Ref(K),
-            Value::Ref(O),
-            Value::Ref(W),
-            Value::Ref(F),
-            Value::Ref(G),
-        ],
-    )?;
-    let entry = Vec::from_slice(alloc, &[Value::Int(6), Value::Ref(B)])?;
     Ok(Env {
         thread: ME,
         this: A,
-        locals,
-        entry,
-        result: Value::Int(42),
+        locals: Vec::from_slice(alloc, LOCALS)?,
+        entry: Vec::from_slice(alloc, ENTRY)?,
+        result: Int(42),
     })
 }
 
-fn field(alloc: Global, name: &str, ty: DeclaredType) -> Result<FieldInfo, AllocError> {
-    let name = Vec::from_slice(alloc, name.as_bytes())?;
-    Ok(FieldInfo {
-        name,
-        of: 3,
-        ty,
-        is_volatile: false,
-        is_ghost: false,
-    })
-}
+const FIELDS: &[(&str, DeclaredType)] = &[
+    ("n", DeclaredType::Integer(CType::LongLong)),
+    ("p", DeclaredType::Pointer(3)),
+];
 
-fn shape(alloc: Global, holes: &[Sort], text: &str) -> Result<Shape, Unread> {
-    let holes = Vec::from_slice(alloc, holes)?;
-    let conjunct = read(alloc, text)?;
-    Ok(Shape { holes, conjunct })
-}
-
-/// A program with the fields n and p, and two shapes. Variable 0 of a shape is its first hole, written x, and 1 its second, written p.
-fn program(alloc: Global) -> Result<Program, Unread> {
-    let mut fields = Vec::new(alloc);
-    let n = field(alloc, "n", DeclaredType::Integer(CType::LongLong))?;
-    fields.push(n)?;
-    let p = field(alloc, "p", DeclaredType::Pointer(3))?;
-    fields.push(p)?;
-    let mut shapes = Vec::new(alloc);
-    let is_value = shape(alloc, &[Sort::RefSort, Sort::IntSort], "== ->n x p")?;
-    shapes.push(is_value)?;
-    let is_positive = shape(alloc, &[Sort::IntSort], "> + x 1 0")?;
-    shapes.push(is_positive)?;
-    Ok(Program {
-        structs: Vec::new(alloc),
-        fields,
-        functions: Vec::new(alloc),
-        sites: Vec::new(alloc),
-        shapes,
-        items: Vec::new(alloc),
-        main: 0,
-    })
-}
+const SHAPES: &[ShapeRow<'static>] = &[
+    (&[Sort::RefSort, Sort::IntSort], "== ->n x p"),
+    (&[Sort::IntSort], "> + x 1 0"),
+];
 
 /// All that an expression is worked out on.
 #[derive(Drop)]
@@ -179,9 +146,9 @@ pub struct World {
 
 impl World {
     pub fn new(alloc: Global) -> Result<World, Unread> {
-        let program = program(alloc)?;
-        let before = before(alloc)?;
-        let after = after(alloc)?;
+        let program = program(alloc, &[], FIELDS, SHAPES)?;
+        let before = heap_of(alloc, BEFORE)?;
+        let after = heap_of(alloc, AFTER)?;
         let env = env(alloc)?;
         Ok(World {
             program,

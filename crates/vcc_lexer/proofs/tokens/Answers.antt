@@ -68,9 +68,9 @@ loop-rest-preserved-in_default c =
     let p = position c.loop-rest.place in
     let skips = skipped _ p c.loop-rest.rest.now c.in-Ok.step.token c.in-Ok.step.length c.in-Ok.ensures.step c.in_default.is in
     record {
-      reaches = moved_to c.args.bytes.now c.loop-rest.rest.now c.split_at.result.0.now c.split_at.result.1.now p (position c.behind-place.result) (map lexeme c.loop-rest.found.items) c.in-Ok.step.length c.split_at.ensures.front c.split_at.ensures.back c.behind-place.ensures (skipped_on c.args.bytes.now c.loop-rest.rest.now p (map lexeme c.loop-rest.found.items) c.in-Ok.step.length c.loop-rest.invariant.reaches skips);
+      reaches = moved_to c.args.bytes.now c.loop-rest.rest.now c.split_at.result.0.now c.split_at.result.1.now p (position c.place_after-place.result) (map lexeme c.loop-rest.found.items) c.in-Ok.step.length c.split_at.ensures.front c.split_at.ensures.back c.place_after-place.ensures (skipped_on c.args.bytes.now c.loop-rest.rest.now p (map lexeme c.loop-rest.found.items) c.in-Ok.step.length c.loop-rest.invariant.reaches skips);
       few = c.loop-rest.invariant.few;
-      room = room_on p (position c.behind-place.result) c.split_at.result.0.now (length c.loop-rest.rest.now) (length c.split_at.result.1.now) c.loop-rest.invariant.room c.behind-place.ensures (omega (arith, c.split_at.ensures.front_len, c.split_at.ensures.back_len));
+      room = room_on p (position c.place_after-place.result) c.split_at.result.0.now (length c.loop-rest.rest.now) (length c.split_at.result.1.now) c.loop-rest.invariant.room c.place_after-place.ensures (omega (arith, c.split_at.ensures.front_len, c.split_at.ensures.back_len));
     }
 
 pub loop-rest-preserved : goal.loop-rest-preserved
@@ -80,9 +80,9 @@ loop-rest-preserved c =
     let now = pushed (is_ok c.push.result) c.loop-rest.found.items c.push.new.self.items c.in-Some.token c.if-is_err.ensures.negation c.push.ensures.items in
     let on = token_on c.args.bytes.now c.loop-rest.rest.now p (map lexeme c.loop-rest.found.items) found.1 c.in-Ok.step.length c.loop-rest.invariant.reaches found.2 in
     record {
-      reaches = moved_to c.args.bytes.now c.loop-rest.rest.now c.split_at.result.0.now c.split_at.result.1.now p (position c.behind-place.result) (map lexeme c.push.new.self.items) c.in-Ok.step.length c.split_at.ensures.front c.split_at.ensures.back c.behind-place.ensures (subst (λ (w : List Lexeme). Reaches first_position c.args.bytes.now w (l.behind (take c.in-Ok.step.length c.loop-rest.rest.now) p) (drop c.in-Ok.step.length c.loop-rest.rest.now)) (sym (more_tokens c.loop-rest.found.items c.push.new.self.items c.in-Some.token (lexeme_at p found.1 c.in-Ok.step.length) now found.3)) on);
+      reaches = moved_to c.args.bytes.now c.loop-rest.rest.now c.split_at.result.0.now c.split_at.result.1.now p (position c.place_after-place.result) (map lexeme c.push.new.self.items) c.in-Ok.step.length c.split_at.ensures.front c.split_at.ensures.back c.place_after-place.ensures (subst (λ (w : List Lexeme). Reaches first_position c.args.bytes.now w (l.place_after (take c.in-Ok.step.length c.loop-rest.rest.now) p) (drop c.in-Ok.step.length c.loop-rest.rest.now)) (sym (more_tokens c.loop-rest.found.items c.push.new.self.items c.in-Some.token (lexeme_at p found.1 c.in-Ok.step.length) now found.3)) on);
       few = omega (arith, ap length now, length-append c.loop-rest.found.items (c.in-Some.token ∷ []), found.0, c.len.ensures);
-      room = room_on p (position c.behind-place.result) c.split_at.result.0.now (length c.loop-rest.rest.now) (length c.split_at.result.1.now) c.loop-rest.invariant.room c.behind-place.ensures (omega (arith, c.split_at.ensures.front_len, c.split_at.ensures.back_len));
+      room = room_on p (position c.place_after-place.result) c.split_at.result.0.now (length c.loop-rest.rest.now) (length c.split_at.result.1.now) c.loop-rest.invariant.room c.place_after-place.ensures (omega (arith, c.split_at.ensures.front_len, c.split_at.ensures.back_len));
     }
 
 pub returns-clause-texts : goal.returns-clause-texts

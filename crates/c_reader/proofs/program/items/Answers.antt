@@ -3,9 +3,9 @@ use Rattle.std.proofs.lemmas.Result.{err_from_is_err_and}
 use Rattle.std.specs.declared.alloc.Global.{Global}
 use Rattle.c_syntax.specs.declared.items.Item.{Item}
 use Rattle.c_syntax.specs.Views.{item}
-use Rattle.expr_reader.specs.Reading.{lexemes}
-use Rattle.expr_reader.proofs.Outcomes.{first_err}
-use Rattle.sides.proofs.Repeats.{stop, goes, fails, shorter}
+use Rattle.reader_expressions.specs.Reading.{lexemes}
+use Rattle.reader_expressions.proofs.Outcomes.{first_err}
+use Rattle.reader_assignments.proofs.Repeats.{stop, goes, fails, shorter}
 use Rattle.c_reader.specs.Rows.{one_item}
 use Rattle.c_reader.proofs.ItemKinds.{fine_item, some_item}
 use Rattle.c_reader.proofs.Sequences.{whole, start}

@@ -1,7 +1,7 @@
 use Rattle.std.proofs.Common.{◌≡◌, ◌≤◌, map, length}
 use Rattle.c_syntax.specs.Views.{item}
-use Rattle.expr_reader.specs.Reading.{lexemes, part}
-use Rattle.sides.proofs.Repeats.{going}
+use Rattle.reader_expressions.specs.Reading.{lexemes, part}
+use Rattle.reader_assignments.proofs.Repeats.{going}
 use Rattle.c_reader.specs.Rows as rows
 use Rattle.c_reader.proofs.program.items.Given as goal
 

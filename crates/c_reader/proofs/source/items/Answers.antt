@@ -1,7 +1,7 @@
 use Rattle.std.proofs.Common.{Err, subst, sym, ◌∙◌}
 use Rattle.c_syntax.specs.Laws.{read_items}
-use Rattle.expr_reader.specs.declared.reading.ReadFault.{ReadFault}
-use Rattle.expr_reader.specs.Reading.{lexemes}
+use Rattle.reader_expressions.specs.declared.reading.ReadFault.{ReadFault}
+use Rattle.reader_expressions.specs.Reading.{lexemes}
 use Rattle.c_reader.specs.Reading.{GivesItems}
 use Rattle.c_reader.proofs.Whole.{unexpected_read}
 use Rattle.c_reader.proofs.source.items.Goals as goal

@@ -7,7 +7,7 @@ use Rattle.c_syntax.specs.Lexing.{lexeme, lexeme_at}
 use Rattle.c_syntax.specs.Faults.{read_source}
 use Rattle.c_syntax.specs.Views.{item, items_of}
 use Rattle.c_source.specs.Sources.{IsFaultOrMemory}
-use Rattle.expr_reader.specs.Reading.{lexemes}
+use Rattle.reader_expressions.specs.Reading.{lexemes}
 use Rattle.c_reader.specs.Reading.{IsRead}
 use Rattle.c_reader.proofs.Whole.{Found, few_parts, read_text, read_fault, no_other, other_fault, only_text, only_fault}
 use Rattle.c_reader.proofs.source.read_source.Goals as goal

@@ -3,7 +3,7 @@ use Rattle.ebnf.specs.Reading.{reads}
 use Rattle.c_syntax.specs.Grammar.{Program}
 use Rattle.c_syntax.specs.Language.{language}
 use Rattle.c_syntax.specs.Views as views
-use Rattle.expr_reader.specs.Reading.{lexemes}
+use Rattle.reader_expressions.specs.Reading.{lexemes}
 use Rattle.c_reader.proofs.Whole.{ends_there}
 use Rattle.c_reader.proofs.source.some_items.Goals as goal
 

@@ -11,7 +11,7 @@ returns-in_err-block-clause-reads c =
 
 pub loop-preserved : goal.loop-preserved
 loop-preserved c = record {
-  goes = rw c.in_ok-push.ensures.items (times_goes block_at c.loop.found.items c.args.count c.loop.counter c.loop.rest.now c.in_ok-block.block c.in_ok-block.behind.now (times_at block_at c.args.count c.args.bytes.now) c.loop-test.true c.in_ok-block.ensures.reads c.loop.invariant.goes);
+  goes = rw c.in_ok-push.ensures.items (times_goes block_at c.loop.found.items c.args.count c.loop.counter c.loop.rest.now c.in_ok-block.block c.in_ok-block.following.now (times_at block_at c.args.count c.args.bytes.now) c.loop-test.true c.in_ok-block.ensures.reads c.loop.invariant.goes);
   within = omega (arith, c.in_ok-block.ensures.within);
 }
 

@@ -11,7 +11,7 @@ returns-in_err-step-clause-reads c =
 
 pub loop-preserved : goal.loop-preserved
 loop-preserved c = record {
-  goes = rw c.in_ok-push.ensures.items (times_goes step_at c.loop.found.items c.args.count c.loop.counter c.loop.rest.now c.in_ok-step.step c.in_ok-step.behind.now (times_at step_at c.args.count c.args.bytes.now) c.loop-test.true c.in_ok-step.ensures.reads c.loop.invariant.goes);
+  goes = rw c.in_ok-push.ensures.items (times_goes step_at c.loop.found.items c.args.count c.loop.counter c.loop.rest.now c.in_ok-step.step c.in_ok-step.following.now (times_at step_at c.args.count c.args.bytes.now) c.loop-test.true c.in_ok-step.ensures.reads c.loop.invariant.goes);
   within = omega (arith, c.in_ok-step.ensures.within);
 }
 

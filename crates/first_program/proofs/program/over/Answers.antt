@@ -1,4 +1,4 @@
-use Rattle.std.proofs.Common.{◌≡◌, ℕ, List, map, Some, Err, subst, Vec, Global}
+use Rattle.std.proofs.Common.{◌≡◌, List, map, Some, Err, subst, Vec, Global}
 use Rattle.c_syntax.specs.declared.items.Clause.{Clause}
 use Rattle.c_syntax.specs.declared.statements.Stmt.{Stmt}
 use Rattle.c_syntax.specs.Views as views

@@ -1,4 +1,4 @@
-use Rattle.std.proofs.Common.{◌≡◌, arith, List, [], ◌∷◌, ◌++◌, drop, ◌+◌, subst, sym, ap, ◌∙◌}
+use Rattle.std.proofs.Common.{arith, List, drop, ◌+◌, subst, sym, ap, ◌∙◌}
 use Rattle.c_syntax.specs.declared.statements.Stmt.{Stmt as Statement}
 use Rattle.c_syntax.specs.Statements.{Stm}
 use Rattle.c_syntax.specs.Views as views
@@ -17,7 +17,7 @@ branch-returns-in-Block t c =
 
 pub statements-loop-one-preserved : goal.statements-loop-one-preserved
 statements-loop-one-preserved t c =
-    subst (λ (xs : List Stmt). StatementsLeft (names_of c.args.names.now) xs (drop (c.loop-one.one-index + 1) c.args.all.now) c.args.all.now) (sym c.in_ok-add.ensures.ok)
+    subst (λ (xs : List Stmt). StatementsLeft (names_of c.args.names.now) xs (drop (c.loop-one.one-index + 1) c.args.all.now) c.args.all.now) (sym c.in_ok-push.ensures.items)
     (statements_go (names_of c.args.names.now) c.loop-one.found.items c.args.all.now c.loop-one.one-index c.one-item.result c.in_ok-one.one (omega arith) c.one-item.is c.in_ok-one.ensures.form c.loop-one.invariant)
 
 pub statements-returns : goal.statements-returns

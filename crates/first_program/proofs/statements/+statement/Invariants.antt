@@ -1,4 +1,4 @@
-use Rattle.std.proofs.Common.{drop, map}
+use Rattle.std.proofs.Common.{drop}
 use Rattle.first_program.specs.Outcomes.{names_of}
 use Rattle.first_program.proofs.Turns.{StatementsLeft}
 use Rattle.first_program.proofs.statements.+statement.Given as goal

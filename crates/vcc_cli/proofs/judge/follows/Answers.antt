@@ -3,8 +3,8 @@ use Rattle.terms.specs.declared.term.Term.{Term}
 use Rattle.terms.proofs.Numbering.{numbers_stand}
 use Rattle.term_bank.proofs.Trees.{numbered_same}
 use Rattle.refutation_check.specs.Follows.{Follows}
-use Rattle.wp_gen.specs.Facts.{check_of}
-use Rattle.wp_gen.specs.Conditions.{condition}
+use Rattle.first_conditions.specs.Facts.{check_of}
+use Rattle.first_conditions.specs.Conditions.{condition}
 use Rattle.vcc_cli.proofs.judge.follows.Goals as goal
 
 pub returns-clause-valid : goal.returns-clause-valid

@@ -1,4 +1,4 @@
-use Rattle.wp_gen.specs.Facts.{check_of}
+use Rattle.first_conditions.specs.Facts.{check_of}
 use Rattle.vcc_cli.proofs.Judging.{Left}
 use Rattle.vcc_cli.proofs.judge.judge.Given as goal
 

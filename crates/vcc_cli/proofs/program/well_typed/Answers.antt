@@ -1,7 +1,7 @@
 use Rattle.c_syntax.specs.Views.{items_of}
-use Rattle.c_types.specs.FirstLaws.{none_broken}
+use Rattle.typing_spec.specs.FirstLaws.{none_broken}
 use Rattle.std.proofs.Common.{subst}
-use Rattle.source_typing.specs.Typed.{IsTypeFault}
+use Rattle.c_types.specs.Typed.{IsTypeFault}
 use Rattle.vcc_cli.proofs.Programs.{breaks_first}
 use Rattle.vcc_cli.proofs.program.well_typed.Goals as goal
 

@@ -8,4 +8,4 @@ pub returns-in_default : goal.returns-in_default
 returns-in_default c = no_include c.args.column c.args.text.now c.requires (not_stripped c.args.text.now (codes "#include <vcc.h>") c.in_default.ensures.cases)
 
 pub returns : goal.returns
-returns c = λ p e. s.include c.in-Some.behind.now (stripped c.args.text.now (codes "#include <vcc.h>") c.in-Some.behind c.in-Some.ensures.cases) (e ∙ c.if-column-ne1.false) c.if-not-ends_line.ensures refl
+returns c = λ p e. s.include c.in-Some.place_after.now (stripped c.args.text.now (codes "#include <vcc.h>") c.in-Some.place_after c.in-Some.ensures.cases) (e ∙ c.if-column-ne1.false) c.if-not-ends_line.ensures refl

@@ -1,5 +1,0 @@
-use Rattle.typed_program.proofs.Vectors.{exists}
-use Rattle.annotation_typing.proofs.rows.exists_of.Goals as goal
-
-pub returns : goal.returns
-returns c = exists c.args.number c.args.ty c.args.owner c.args.conjuncts

@@ -1,8 +1,0 @@
-use Rattle.std.proofs.Common.{◌≡◌, drop}
-use Rattle.std.specs.List.{list_any}
-use Rattle.c_syntax.specs.Views.{id, exps}
-use Rattle.c_types.specs.Trees.{mentions}
-use Rattle.claim_sites.proofs.sites.stands_in.Given as goal
-
-abbrev pub invariant-loop-x : goal.invariant-loop-x
-invariant-loop-x l = list_any (mentions (id l.name)) (exps l.all) ≡ list_any (mentions (id l.name)) (exps (drop l.x-index l.all))

@@ -1,8 +1,0 @@
-use Rattle.std.proofs.Common.{◌≡◌, ◌++◌, take, map}
-use Rattle.c_syntax.specs.Views as view
-use Rattle.declared_names.specs.Scopes.{variable}
-use Rattle.typed_program.specs.Variables.{parameter}
-use Rattle.claim_sites.proofs.variables.add_parameters.Given as goal
-
-abbrev pub invariant-loop-x : goal.invariant-loop-x
-invariant-loop-x l = map variable l.declared.items ≡ map variable l.fn.declared.items ++ map (parameter l.is_ghost) (map view.parameter (take l.x-index l.all))

@@ -1,7 +1,0 @@
-use Rattle.std.proofs.Common.{◌≡◌, take, map}
-use Rattle.c_syntax.specs.Views as view
-use Rattle.declared_names.specs.Scopes.{variable}
-use Rattle.claim_sites.proofs.variables.names_of.Given as goal
-
-abbrev pub invariant-loop-one : goal.invariant-loop-one
-invariant-loop-one l = map (λ n. view.id n.now) l.names.items ≡ map (λ v. v.name) (map variable (take l.one-index l.all))

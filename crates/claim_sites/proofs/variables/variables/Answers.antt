@@ -1,9 +1,0 @@
-use Rattle.std.proofs.Common.{ap, map}
-use Rattle.declared_names.specs.Scopes.{variable}
-use Rattle.claim_sites.proofs.Declared.{function_all}
-use Rattle.claim_sites.proofs.variables.variables.Goals as goal
-
-pub returns : goal.returns
-returns c =
-    function_all c.args.function.now (map variable c.new-declared.result.items) _ _ _ c.deref.result.now c.deref-2.result.now c.deref-3.result.now (ap (map variable) c.new-declared.ensures.items) c.deref.ensures.value c.in_ok-add_parameters.ensures c.deref-2.ensures.value c.in_ok-add_parameters-2.ensures
-    c.deref-3.ensures.value c.in_ok-add_statements.ensures

@@ -1,9 +1,0 @@
-use Rattle.std.proofs.Common.{◌≡◌, ◌+◌, position}
-use Rattle.std.specs.Option.{option_map}
-use Rattle.c_syntax.specs.Views as view
-use Rattle.c_types.specs.Declarations.{same_name}
-use Rattle.expr_rules.specs.Views.{quantified}
-use Rattle.code_typing.proofs.numbers.quantified_place.Given as goal
-
-abbrev pub invariant-loop-rest : goal.invariant-loop-rest
-invariant-loop-rest l = position (λ v. same_name v.name (view.id l.name)) (quantified l.all) ≡ option_map (λ i. i + l.place) (position (λ v. same_name v.name (view.id l.name)) (quantified l.rest))

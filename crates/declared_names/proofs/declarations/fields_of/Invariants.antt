@@ -1,6 +1,0 @@
-use Rattle.std.proofs.Common.{◌≡◌, map, take}
-use Rattle.declared_names.specs.Program.{fields_in}
-use Rattle.declared_names.proofs.declarations.fields_of.Given as goal
-
-abbrev pub invariant-loop-member : goal.invariant-loop-member
-invariant-loop-member l = map (λ f. f.now) l.fields.items ≡ fields_in (take l.member-index l.members)

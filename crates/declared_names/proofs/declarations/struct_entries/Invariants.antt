@@ -1,6 +1,0 @@
-use Rattle.std.proofs.Common.{◌≡◌, map, take}
-use Rattle.declared_names.specs.Program.{structs_in}
-use Rattle.declared_names.proofs.declarations.struct_entries.Given as goal
-
-abbrev pub invariant-loop-item : goal.invariant-loop-item
-invariant-loop-item l = map (λ s. s.tree.now) l.entries.items ≡ structs_in (take l.item-index l.items)

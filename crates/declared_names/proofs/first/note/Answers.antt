@@ -1,5 +1,0 @@
-use Rattle.declared_names.proofs.Tables.{placed}
-use Rattle.declared_names.proofs.first.note.Goals as goal
-
-pub returns : goal.returns
-returns c = placed c.as_slice-key.result _ c.args.places.now c.insert.new.self c.args.place c.as_slice-key.ensures.value c.if-contains_key.ensures c.in_ok-insert.ensures.updates

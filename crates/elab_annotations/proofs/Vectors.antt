@@ -1,0 +1,37 @@
+-- Expressions in vectors: how many parts they have, and how many formulas.
+use Rattle.std.proofs.Common.{◌≡◌, ℕ, zero, suc, ◌+◌, ◌<◌, ◌≤◌, List, [], ◌∷◌, refl, ap, Vec, length, get_or, drop, arith}
+use Rattle.std.specs.declared.alloc.Global.{Global}
+use Rattle.c_syntax.specs.declared.token.Span.{Span}
+use Rattle.c_syntax.specs.declared.expressions.Expr as x
+use Rattle.c_syntax.specs.Grammar.{exps_of}
+use Rattle.c_syntax.specs.Views.{exp, exps}
+use Rattle.typing_expressions.proofs.Rows.{mine, drop_at}
+use Rattle.typed_program.specs.Annotations.{formulas, all_formulas}
+use Rattle.elab_annotations.specs.Sizes.{parts, all_parts}
+
+-- ---- how many parts
+
+pub item_parts : (xs : List x.Expr) (i : ℕ) (y : x.Expr) → i < length xs → y ≡ get_or xs i y → parts (exp y) ≤ all_parts (exps_of (exps xs))
+item_parts [] i y lt is = absurd (omega arith)
+item_parts (x ∷ xs) zero y lt is = let h = ap (λ z. parts (exp z)) is in omega (arith, h)
+item_parts (x ∷ xs) (suc i) y lt is = let h = item_parts xs i y (omega arith) is in omega (arith, h)
+
+pub mine_parts : (a : x.Expr) (span : Span) (all : Vec x.Expr Global) (items : List x.Expr) → a ≡ x.Mine span all → items ≡ all.items → parts (exp a) ≡ 1 + all_parts (exps_of (exps items))
+mine_parts a span all items d f = ap parts (mine a span all items d f)
+
+-- ---- how many formulas
+
+drop_all : {X : Type 0} (xs : List X) (i : ℕ) → length xs ≤ i → drop i xs ≡ []
+drop_all [] zero h = refl
+drop_all [] (suc i) h = refl
+drop_all (x ∷ xs) zero h = absurd (omega arith)
+drop_all (x ∷ xs) (suc i) h = drop_all xs i (omega arith)
+
+-- one more is counted
+pub counted : (xs : List x.Expr) (i : ℕ) (y : x.Expr) → i < length xs → y ≡ get_or xs i y → (n m k : ℕ) → m ≡ formulas (exp y) → k ≡ n + m → n + all_formulas (exps_of (exps (drop i xs))) ≡ all_formulas (exps_of (exps xs))
+    → k + all_formulas (exps_of (exps (drop (i + 1) xs))) ≡ all_formulas (exps_of (exps xs))
+counted xs i y lt is n m k e f h = let g = ap (λ zs. all_formulas (exps_of (exps zs))) (drop_at xs i y lt is) in omega (arith, e, f, g, h)
+
+-- all are counted
+pub counted_all : (xs : List x.Expr) (i n : ℕ) → length xs ≤ i → n + all_formulas (exps_of (exps (drop i xs))) ≡ all_formulas (exps_of (exps xs)) → n ≡ all_formulas (exps_of (exps xs))
+counted_all xs i n h e = let g = ap (λ (zs : List x.Expr). all_formulas (exps_of (exps zs))) (drop_all xs i h) in omega (arith, e, g)

@@ -1,0 +1,15 @@
+use Rattle.std.proofs.Common.{ap, ◌∙◌}
+use Rattle.typed_program.specs.Trees as t
+use Rattle.typed_program.specs.Views as views
+use Rattle.elab_annotations.specs.Typing.{alone}
+use Rattle.elab_annotations.specs.Views.{boxed}
+use Rattle.elab_annotations.proofs.Specs.{row_seen}
+use Rattle.elab_annotations.proofs.Steps.{told}
+use Rattle.elab_annotations.proofs.rows.exists.Goals as goal
+
+pub returns : goal.returns
+returns c =
+    let xs = c.args.conjuncts.specs.items in
+    let next = c.args.conjuncts.next in
+    told boxed c.new.result c.new.ensures
+    (ap (λ (w : t.Spec). alone w next) (c.exists_of.ensures ∙ ap (t.SExists c.args.number c.args.ty (views.spec c.args.owner.value)) (row_seen xs)))

@@ -1,0 +1,3 @@
+pub mod Sides
+pub mod Views
+pub mod Rights

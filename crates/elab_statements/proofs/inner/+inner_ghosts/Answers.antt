@@ -1,0 +1,107 @@
+use Rattle.std.proofs.Common.{◌≡◌, ℕ, ◌≤◌, ◌-◌, refl, sym, ap, ◌∙◌, List, map, take, drop, length, arith}
+use Rattle.c_syntax.specs.declared.expressions.Expr.{Expr}
+use Rattle.c_syntax.specs.declared.ghosts.GhostStmt.{GhostStmt}
+use Rattle.c_syntax.specs.Grammar.{ghosts_of}
+use Rattle.c_syntax.specs.Ghosts as g
+use Rattle.c_syntax.specs.Ghosts.{GStm}
+use Rattle.c_syntax.specs.Views as view
+use Rattle.typing_spec.specs.Contexts.{Variable}
+use Rattle.typing_symbols.specs.Scopes.{known}
+use Rattle.typing_expressions.proofs.Rows.{take_at, take_all}
+use Rattle.elab_annotations.proofs.Steps.{told}
+use Rattle.elab_assignments.specs.Views.{before}
+use Rattle.typing_statements.specs.Views.{behind_ghost, behind_ghosts}
+use Rattle.typing_statements.proofs.Sequences.{Grows, kept, longer, grows_ghosts, ghost_block, behind_ghosts_more}
+use Rattle.typed_program.specs.Statements.{Counters}
+use Rattle.elab_statements.specs.Rows.{TypedInner, inner, typed_inner_ghost, typed_inner_ghosts}
+use Rattle.elab_statements.specs.Settings.{setting, at}
+use Rattle.elab_statements.proofs.GhostForms.{inner_assign_is, inner_owns_is, inner_destroy_is, inner_if_step, inner_if_else_step}
+use Rattle.elab_statements.proofs.Sequences.{inner_ghosts_law, no_inner_ghosts}
+use Rattle.elab_statements.proofs.Steps.{inner_ghost_form, inner_behind}
+use Rattle.elab_statements.proofs.inner.+inner_ghosts.Goals as goal
+
+pub inner_ghost-returns-in-Block-clause-typed : goal.inner_ghost-returns-in-Block-clause-typed
+inner_ghost-returns-in-Block-clause-typed t c =
+    let k = at (setting c.args.setting) (known c.args.variables.now) in
+    told inner c.inner_ghosts.result c.inner_ghosts.ensures.typed (ap (λ (s : GStm). typed_inner_ghost k (before c.args.before) s) (sym (ghost_block c.args.x.now c.in-Block.field-0 c.in-Block.all c.deref.result.now c.in-Block.is c.deref.ensures.value)))
+
+pub inner_ghost-returns-in-Assign-clause-typed : goal.inner_ghost-returns-in-Assign-clause-typed
+inner_ghost-returns-in-Assign-clause-typed t c =
+    let k = at (setting c.args.setting) (known c.args.variables.now) in
+    let n = before c.args.before in
+    let s = c.in-Assign in
+    told inner c.inner_assignment.result c.inner_assignment.ensures (inner_assign_is n s.span (view.exp s.left) s.field-2 (view.ghost_rhs s.value) c.around-around.ensures ∙ inner_ghost_form k n c.args.x.now _ s.is)
+
+pub inner_ghost-returns-in-Owns-clause-typed : goal.inner_ghost-returns-in-Owns-clause-typed
+inner_ghost-returns-in-Owns-clause-typed t c =
+    let k = at (setting c.args.setting) (known c.args.variables.now) in
+    let n = before c.args.before in
+    let s = c.in-Owns in
+    told inner c.inner_set_change.result c.inner_set_change.ensures (inner_owns_is n s.span (view.exp s.left) s.field-2 (view.owns s.change) c.around-around-in-Owns.ensures ∙ inner_ghost_form k n c.args.x.now _ s.is)
+
+pub inner_ghost-returns-in-DestroyClaim-clause-typed : goal.inner_ghost-returns-in-DestroyClaim-clause-typed
+inner_ghost-returns-in-DestroyClaim-clause-typed t c =
+    let k = at (setting c.args.setting) (known c.args.variables.now) in
+    let n = before c.args.before in
+    let s = c.in-DestroyClaim in
+    told inner c.inner_destroyed.result c.inner_destroyed.ensures (inner_destroy_is n s.span (view.exp s.claim) (view.exps c.deref-in-DestroyClaim.result.now) c.around-around-in-DestroyClaim.ensures
+    ∙ (ap (λ (xs : List Expr). typed_inner_ghost k n (g.DestroyClaim s.span (view.exp s.claim) (view.exps xs))) c.deref-in-DestroyClaim.ensures.value ∙ inner_ghost_form k n c.args.x.now _ s.is))
+
+pub inner_ghost-returns-in_ok-inner-in-If-clause-typed : goal.inner_ghost-returns-in_ok-inner-in-If-clause-typed
+inner_ghost-returns-in_ok-inner-in-If-clause-typed t c =
+    let k = at (setting c.args.setting) (known c.args.variables.now) in
+    let n = before c.args.before in
+    let s = c.in-If in
+    let around = c.around-around-in-If.ensures ∙ ap (λ (vs : List Variable). at (setting c.args.setting) vs) c.in_ok-inner-in-If.ensures.kept in
+    let part = c.in_ok-inner-in-If.ensures.typed ∙ ap (λ (z : GhostStmt). typed_inner_ghost k n (view.ghost z)) c.deref-in-If.ensures in
+    told inner c.inner_if_row.result c.inner_if_row.ensures (inner_if_step n s.span (view.exp s.test) (view.ghost s.yes.value) around part ∙ inner_ghost_form k n c.args.x.now _ s.is)
+
+pub inner_ghost-returns-in_ok-no-in-IfElse-clause-typed : goal.inner_ghost-returns-in_ok-no-in-IfElse-clause-typed
+inner_ghost-returns-in_ok-no-in-IfElse-clause-typed t c =
+    let k = at (setting c.args.setting) (known c.args.variables.now) in
+    let n = before c.args.before in
+    let s = c.in-IfElse in
+    let yes = c.in_ok-yes-in-IfElse.ensures.typed ∙ ap (λ (z : GhostStmt). typed_inner_ghost k n (view.ghost z)) c.deref-in-IfElse.ensures in
+    let no = c.in_ok-no-in-IfElse.ensures.typed ∙ (ap (λ (vs : List Variable). typed_inner_ghost (at (setting c.args.setting) vs) (before c.in_ok-yes-in-IfElse.yes.next) (view.ghost c.deref-in-IfElse-2.result.now)) c.in_ok-yes-in-IfElse.ensures.kept
+    ∙ ap (λ (z : GhostStmt). typed_inner_ghost k (before c.in_ok-yes-in-IfElse.yes.next) (view.ghost z)) c.deref-in-IfElse-2.ensures) in
+    let around = c.around-around-in-IfElse.ensures ∙ ap (λ (vs : List Variable). at (setting c.args.setting) vs) (c.in_ok-no-in-IfElse.ensures.kept ∙ c.in_ok-yes-in-IfElse.ensures.kept) in
+    told inner c.inner_if_else_row.result c.inner_if_else_row.ensures (inner_if_else_step n s.span (view.exp s.test) (view.ghost s.first.value) (view.ghost s.second.value) around yes no ∙ inner_ghost_form k n c.args.x.now _ s.is)
+
+pub inner_ghosts-loop-x-init : goal.inner_ghosts-loop-x-init
+inner_ghosts-loop-x-init t c =
+    (c.nothing-so_far.ensures ∙ no_inner_ghosts (setting c.args.setting) (known c.args.variables.now) (before c.args.before), refl)
+
+pub inner_ghosts-loop-x-preserved : goal.inner_ghosts-loop-x-preserved
+inner_ghosts-loop-x-preserved t c =
+    let f = setting c.args.setting in
+    let vs0 = known c.args.variables.now in
+    let n = before c.args.before in
+    let done = map view.ghost (take c.loop-x.x-index c.args.all.now) in
+    let y = view.ghost c.x-item.result in
+    let more = take_at view.ghost c.args.all.now c.loop-x.x-index c.x-item.result c.loop-x-test.true c.x-item.is in
+    let one = c.in_ok-one.ensures.typed ∙ (ap (λ (vs : List Variable). typed_inner_ghost (at f vs) (before c.loop-x.so_far.next) y) c.loop-x.invariant.1 ∙ ap (λ (m : Counters). typed_inner_ghost (at f (behind_ghosts done vs0)) m y) (ap (λ (r : TypedInner). r.next) c.loop-x.invariant.0)) in (
+      c.in_ok-so_far.ensures ∙ (inner_behind c.loop-x.invariant.0 one ∙ (inner_ghosts_law f vs0 n done y ∙ ap (λ (ss : List GStm). typed_inner_ghosts (at f vs0) n (ghosts_of ss)) (sym more))),
+      c.in_ok-know_ghost.ensures ∙ (ap (behind_ghost y) (c.in_ok-one.ensures.kept ∙ c.loop-x.invariant.1) ∙ (sym (behind_ghosts_more done y vs0) ∙ ap (λ (ss : List GStm). behind_ghosts ss vs0) (sym more))),
+    )
+
+pub inner_ghosts-keep-requires : goal.inner_ghosts-keep-requires
+inner_ghosts-keep-requires t c =
+    let vs0 = known c.args.variables.now in
+    let done = map view.ghost (take c.loop-x.x-index c.args.all.now) in
+    let long : length (known c.loop-x.variables) ≡ length (behind_ghosts done vs0) = ap length c.loop-x.invariant.1 in
+    let least : length vs0 ≤ length (behind_ghosts done vs0) = longer vs0 (behind_ghosts done vs0) (grows_ghosts done vs0) in
+    let count : c.count-count.result ≡ length vs0 = c.count-count.ensures in
+    omega arith
+
+pub inner_ghosts-returns-clause-typed : goal.inner_ghosts-returns-clause-typed
+inner_ghosts-returns-clause-typed t c =
+    c.loop-x.invariant.0 ∙ ap (λ (xs : List GhostStmt). typed_inner_ghosts (at (setting c.args.setting) (known c.args.variables.now)) (before c.args.before) (ghosts_of (map view.ghost xs))) (take_all c.args.all.now c.loop-x.x-index (omega arith))
+
+pub inner_ghosts-returns-clause-kept : goal.inner_ghosts-returns-clause-kept
+inner_ghosts-returns-clause-kept t c =
+    let vs0 = known c.args.variables.now in
+    let ws = known c.loop-x.variables in
+    let done = map view.ghost (take c.loop-x.x-index c.args.all.now) in
+    let grown = grows_ghosts done vs0 in
+    let now : Grows vs0 ws = (grown.0, c.loop-x.invariant.1 ∙ grown.1) in
+    c.keep.ensures ∙ (ap (λ (n : ℕ). drop (length ws - n) ws) c.count-count.ensures ∙ kept vs0 ws now)

@@ -1,7 +1,0 @@
-pub mod Fronts
-pub mod Standing
-pub mod Shapes
-pub mod Ends
-pub mod Found
-pub mod Links
-pub mod Choices

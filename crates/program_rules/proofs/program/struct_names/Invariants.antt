@@ -1,7 +1,0 @@
-use Rattle.std.proofs.Common.{◌≡◌, take, map}
-use Rattle.c_syntax.specs.Views as view
-use Rattle.program_rules.specs.Names.{held}
-use Rattle.program_rules.proofs.program.struct_names.Given as goal
-
-abbrev pub invariant-loop-x : goal.invariant-loop-x
-invariant-loop-x l = held l.names.items ≡ map (λ s. s.name) (map (λ s. view.struct s.tree.now) (take l.x-index l.all))

@@ -1,7 +1,0 @@
-use Rattle.std.proofs.Common.{◌≡◌, take, map}
-use Rattle.c_syntax.specs.Views as view
-use Rattle.program_rules.specs.Names.{held, field_names}
-use Rattle.program_rules.proofs.structs.fields_of.Given as goal
-
-abbrev pub invariant-loop-member : goal.invariant-loop-member
-invariant-loop-member l = held l.names.items ≡ field_names (map view.member (take l.member-index l.members))

@@ -1,8 +1,0 @@
-use Rattle.std.proofs.Common.{◌≡◌, ◌++◌, take, map}
-use Rattle.std.specs.Prelude.{flat_map}
-use Rattle.c_syntax.specs.Views as view
-use Rattle.program_rules.specs.Names.{held, ghost_names}
-use Rattle.program_rules.proofs.variables.+ghosts.Given as goal
-
-abbrev pub invariant-add_ghosts-loop-x : goal.invariant-add_ghosts-loop-x
-invariant-add_ghosts-loop-x l = held l.names.items ≡ held l.fn.names.items ++ flat_map ghost_names (map view.ghost (take l.x-index l.all))

@@ -1,7 +1,0 @@
-use Rattle.std.proofs.Common.{◌≡◌, ◌++◌, take, map}
-use Rattle.c_syntax.specs.Views as view
-use Rattle.program_rules.specs.Names.{held, parameter_names}
-use Rattle.program_rules.proofs.variables.add_parameters.Given as goal
-
-abbrev pub invariant-loop-x : goal.invariant-loop-x
-invariant-loop-x l = held l.names.items ≡ held l.fn.names.items ++ parameter_names (map view.parameter (take l.x-index l.all))

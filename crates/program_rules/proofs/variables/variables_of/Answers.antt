@@ -1,9 +1,0 @@
-use Rattle.std.proofs.Common.{ap}
-use Rattle.program_rules.specs.Names.{held}
-use Rattle.program_rules.proofs.Declaring.{function_all}
-use Rattle.program_rules.proofs.variables.variables_of.Goals as goal
-
-pub returns : goal.returns
-returns c =
-    function_all c.args.x.now (held c.new-names.result.items) _ _ _ c.deref.result.now c.deref-2.result.now c.deref-3.result.now (ap held c.new-names.ensures.items) c.deref.ensures.value c.in_ok-add_parameters.ensures c.deref-2.ensures.value c.in_ok-add_parameters-2.ensures c.deref-3.ensures.value
-    c.in_ok-add_statements.ensures

@@ -1,0 +1,16 @@
+use Rattle.std.proofs.Common.{◌≡◌, ◌≤◌, map, length}
+use Rattle.c_syntax.specs.Views.{parameter}
+use Rattle.c_syntax.specs.Grammar as g
+use Rattle.reader_expressions.specs.Reading.{lexemes, part}
+use Rattle.reader_expressions.specs.Lists.{listed}
+use Rattle.reader_items.specs.Rows as rows
+use Rattle.reader_items.proofs.parameters.parameter_list.Given as goal
+
+abbrev pub invariant-more : goal.invariant-more
+invariant-more l = record {
+  low : l.found.height ≤ l.room;
+  same : listed l.room g.param (map parameter l.found.value.items) l.found.height (lexemes l.found.rest.now) ≡ part l.room rows.all_parameters (lexemes l.fn.tokens);
+}
+
+abbrev pub decreases-more : goal.decreases-more
+decreases-more l = length l.found.rest.now

@@ -1,5 +1,0 @@
-use Rattle.statement_reader.proofs.Vectors.{atomic}
-use Rattle.statement_reader.proofs.blocks.atomic_of.Goals as goal
-
-pub returns : goal.returns
-returns c = atomic c.args.span c.args.objects c.args.block.statements c.args.block.end

@@ -1,5 +1,0 @@
-use Rattle.statement_reader.proofs.Vectors.{unwrapping}
-use Rattle.statement_reader.proofs.blocks.unwrapping_of.Goals as goal
-
-pub returns : goal.returns
-returns c = unwrapping c.args.span c.args.object c.args.block.statements c.args.block.end

@@ -1,5 +1,0 @@
-use Rattle.statement_typing.proofs.Vectors.{do_loop}
-use Rattle.statement_typing.proofs.loops.do_statement.Goals as goal
-
-pub returns : goal.returns
-returns c = do_loop c.args.line c.args.invariants c.args.body c.args.tested c.args.test

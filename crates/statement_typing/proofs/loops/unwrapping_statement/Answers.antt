@@ -1,5 +1,0 @@
-use Rattle.statement_typing.proofs.Vectors.{block}
-use Rattle.statement_typing.proofs.loops.unwrapping_statement.Goals as goal
-
-pub returns : goal.returns
-returns c = block c.args.line c.args.ty c.args.formula c.args.object c.args.body

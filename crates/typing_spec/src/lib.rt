@@ -1,0 +1,2 @@
+//! What the typing rules of the language say: definitions, in `specs/`.
+#![tactic(auto)]

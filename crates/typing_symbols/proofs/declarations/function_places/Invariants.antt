@@ -1,0 +1,7 @@
+use Rattle.std.proofs.Common.{◌≡◌, ℕ, List, position, take}
+use Rattle.typing_symbols.specs.Lookup.{at}
+use Rattle.typing_symbols.specs.Program.{is_function}
+use Rattle.typing_symbols.proofs.declarations.function_places.Given as goal
+
+abbrev pub invariant-loop-i : goal.invariant-loop-i
+invariant-loop-i l = (y : List ℕ) → at l.places y ≡ position (λ f. is_function y f.now) (take l.i l.functions)
