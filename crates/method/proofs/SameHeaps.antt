@@ -6,7 +6,7 @@ use Rattle.object_types.specs.declared.values.Value.{Value}
 use Rattle.object_types.specs.declared.values.Value.TheVariants.{Int, Ref as Refers}
 use Rattle.object_types.specs.declared.shapes.Entry.{Entry}
 use Rattle.method.specs.declared.program.Spec.{Spec, Row_of-Spec, end_of-Spec, more_of-Spec}
-use Rattle.method.specs.declared.program.Spec.TheVariants.{Number, Truth, Null, Variable, Bound, This, Me, Result, Field', Closed', Owner', ClaimCount', Member', Not', Negate', Arithmetic', Compare', And', Or', Implies', Iff', Choose', Old', Unchanged', Wrapped', Wrapped0', Mutable', Fresh', ClaimsObject', Claims', Lists', Has, ForAll', Exists'}
+use Rattle.method.specs.declared.program.Spec.TheVariants.{Number, Truth, Null, Variable, Bound, This, Me, Result, Field', Closed', Owner', ClaimCount', Member', Not', Negate', Arithmetic', Compare', And', Or', Implies', Iff', Choose', Old', Unchanged', Wrapped', Wrapped0', Mutable', Fresh', ClaimsObject', ClaimsOnly', Claims', Lists', Has, ForAll', Exists'}
 use Rattle.method.specs.declared.program.Shape.{Shape}
 use Rattle.method.specs.declared.program.StructInfo.{StructInfo}
 use Rattle.method.specs.declared.program.Program.{Program}
@@ -15,7 +15,7 @@ use Rattle.object_types.specs.Values.{same_value, int, referent, truth, says}
 use Rattle.object_types.specs.Sets.{some, every, is_in}
 use Rattle.object_types.specs.Heap.{Heap, Same, closed_in, mutable, wrapped, wrapped0}
 use Rattle.method.specs.Tables.{in_type, read, struct_of}
-use Rattle.method.specs.SpecValue.{Scene, compute, compare, old_scene, bind_ref, about, value, all_hold, holds, claim_scene, shape_holds, entry_holds}
+use Rattle.method.specs.SpecValue.{is_exactly, referents, Scene, compute, compare, old_scene, bind_ref, about, value, all_hold, holds, claim_scene, shape_holds, entry_holds}
 use Rattle.method.specs.Invariants.{inv_scene, struct_holds, inv_holds, Inv}
 use Rattle.method.specs.WellFormed.{IsHeapOf, WellFormed, WellFormedStep}
 use Rattle.method.specs.Legal.{Untouched, Legal, Kept, Good}
@@ -62,6 +62,7 @@ module _ (p : Program) where
     same_value_of (Mutable' q e) s x y = ap (λ v. says (mutable s.me s.after (referent v))) (same_value_of e s x y)
     same_value_of (Fresh' q e) s x y = ap (λ v. says (not (same_ref (s.before.get (referent v)).owner s.me))) (same_value_of e s x y)
     same_value_of (ClaimsObject' q c r o) s x y = λ i. says (is_in (referent (same_value_of o s x y i)) (s.after.get (referent (same_value_of c s x y i))).listed)
+    same_value_of (ClaimsOnly' n q c m row) s x y = λ i. says (is_exactly (s.after.get (referent (same_value_of c s x y i))).listed (same_referents_of row s x y i))
     same_value_of (Claims' q c m row) s x y = (λ i. says (all_hold p row (about (referent (same_value_of c s x y i)) (listing_both x y s)))) ∙ ap says (same_row_of row (about (referent (value p c s)) s) x y)
     same_value_of (Lists' q o) s x y = ap (λ v. says (is_in (referent v) (s.after.get s.subject).listed)) (same_value_of o s x y)
     same_value_of (Has c) s x y = refl
@@ -71,6 +72,10 @@ module _ (p : Program) where
     same_row_of : {m : _} (row : Row_of-Spec m) (s : Scene) (x y : List Ref) → all_hold p row (listing_both x y s) ≡ all_hold p row s
     same_row_of end_of-Spec s x y = refl
     same_row_of (more_of-Spec e row) s x y = λ i. truth (same_value_of e s x y i) && same_row_of row s x y i
+
+    same_referents_of : {m : _} (row : Row_of-Spec m) (s : Scene) (x y : List Ref) → referents p row (listing_both x y s) ≡ referents p row s
+    same_referents_of end_of-Spec s x y = refl
+    same_referents_of (more_of-Spec e row) s x y = λ i. referent (same_value_of e s x y i) ∷ same_referents_of row s x y i
 
   same_shape_of : (sh : Option Shape) (h : Heap) (vs : List Value) (x : List Ref) → shape_holds p sh (listing x h) vs ≡ shape_holds p sh h vs
   same_shape_of None h vs x = refl
