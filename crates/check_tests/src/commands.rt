@@ -1,6 +1,8 @@
 //! Worked rows, over a store and a sink in memory.
 
-use std::test::Fail;
+use crate::rows::is;
+use std::alloc::{AllocError, Global};
+use std::process::Abort;
 use test_sources::{FIRST, FIRST_CERT, LOCK, NONE_CERT, TYPING, WRONG_CERT};
 use vcc_base::memory::{MemSink, MemStore};
 use vcc_base::sink::{Sink, SinkFault};
@@ -31,7 +33,7 @@ s chain 0 1 2 3 4 5 6 7 8 9 10 =\nend\n";
 
 /// Sources and certificates, with the line and the status that they get; the last are the files of `examples/`, with the
 /// answers that its page gives.
-const ROWS: [(&str, &str, &str, u8); 12] = [
+const ROWS: &[(&str, &str, &str, u8)] = &[
     (EMPTY, NO_CONDITIONS, "yes\n", 0),
     (FIVE, FIVE_STEPS, "yes\n", 0),
     (SAME, SAME_STEPS, "yes\n", 0),
@@ -63,16 +65,18 @@ const ROWS: [(&str, &str, &str, u8); 12] = [
 
 const USAGE: &str = "usage: vcc check SOURCE CERT\n";
 
+/// Names with the texts that they hold.
+type Held<'a> = &'a [(&'a str, &'a str)];
+
 /// What the command `words` prints, and its status, where these names hold these texts, and the store calls and the sink
 /// calls with these numbers fail.
 fn run(
-    rt: &HostRuntime,
+    alloc: Global,
     words: &[&str],
-    held: &[(&str, &str)],
+    held: Held<'_>,
     store_fails: &[u64],
     sink_fails: &[u64],
-) -> Result<(String, u8), Fail> {
-    let alloc = rt.alloc();
+) -> Result<(String, u8), AllocError> {
     let mut owned = Vec::new(alloc);
     for word in words {
         owned.push(String::from_str(alloc, word)?)?;
@@ -90,100 +94,119 @@ fn run(
     Ok((text, status))
 }
 
+/// The words of a check.
+const CHECK: &[&str] = &["check", "s.c", "C"];
+
+/// These words print this line, with this status, where these names hold these texts.
+fn print(rt: &impl Abort, alloc: Global, words: &[&str], held: Held<'_>, line: &str, status: u8) {
+    let answer = run(alloc, words, held, &[], &[]);
+    let (text, got) = answer.expect(rt, "memory for a run");
+    is(rt, &(words, text.as_str(), got), &(words, line, status));
+}
+
+/// A check of this source with this certificate prints this line, with this status.
+fn prints(rt: &impl Abort, alloc: Global, source: &str, cert: &str, line: &str, status: u8) {
+    let held = [("s.c", source), ("C", cert)];
+    print(rt, alloc, CHECK, &held, line, status);
+}
+
 #[test]
-fn rows(rt: HostRuntime) -> Result<(), Fail> {
+fn rows(rt: HostRuntime) {
     for (source, cert, line, status) in ROWS {
-        let held = [("s.c", source), ("C", cert)];
-        let (text, answer) = run(&rt, &["check", "s.c", "C"], &held, &[], &[])?;
-        assert_eq!(rt; text.as_str(), line, "for {source}");
-        assert_eq!(rt; answer, status, "for {source}");
+        prints(&rt, rt.alloc(), source, cert, line, *status);
     }
-    Ok(())
 }
 
 /// The row's own answer, or want of memory: for runs in which an allocation fails.
 #[test]
-fn want_of_memory(rt: HostRuntime) -> Result<(), Fail> {
+fn want_of_memory(rt: HostRuntime) {
     for (source, cert, line, status) in ROWS {
-        let held = [("s.c", source), ("C", cert)];
-        let (text, answer) = run(&rt, &["check", "s.c", "C"], &held, &[], &[])?;
-        let own = text.as_str() == line && answer == status;
-        assert!(rt; own || answer == 8, "for {source}: {answer}");
+        let held = [("s.c", *source), ("C", *cert)];
+        if let Ok((text, got)) = run(rt.alloc(), CHECK, &held, &[], &[]) {
+            let own = text.as_str() == *line && got == *status;
+            is(&rt, &(*source, own || got == 8), &(*source, true));
+        }
     }
-    Ok(())
 }
 
 /// The first condition in order that doesn't follow decides, with its number and line.
 #[test]
-fn second_condition(rt: HostRuntime) -> Result<(), Fail> {
+fn second_condition(rt: HostRuntime) {
     let source = "void main(int x) _(requires x == 5) {\n_(assert x == 5)\n\n_(assert x != 4)\n}";
     let cert = "vcc-cert 1\nconditions 2\ncondition 0 7 11\ns root = -12\n\
 s conn 1 12 = +12 +11\ns conn 2 12 = +12 -8\ns conn 2 11 = -11 +10\ns conn 2 10 = -10 +9\n\
 s conn 2 9 = -9 +8\ns chain 0 1 2 3 4 5 =\ncondition 0 0 0\nend\n";
-    let held = [("s.c", source), ("C", cert)];
-    let (text, status) = run(&rt, &["check", "s.c", "C"], &held, &[], &[])?;
-    assert_eq!(rt; text.as_str(), "no: main/2 Assert line 4\n");
-    assert_eq!(rt; status, 1);
-    Ok(())
+    prints(
+        &rt,
+        rt.alloc(),
+        source,
+        cert,
+        "no: main/2 Assert line 4\n",
+        1,
+    );
 }
 
-#[test]
-fn words(rt: HostRuntime) -> Result<(), Fail> {
-    let lists: [&[&str]; 11] = [
-        &[],
-        &["check"],
-        &["check", "s.c"],
-        &["check", "s.c", "c", "x"],
-        &["check", "s.c", "C", "x"],
-        &["frobnicate"],
-        &["verify", "s.c", "C"],
-        &["check", "", "C"],
-        &["check", "s.c", ""],
-        &["check", "-s.c", "C"],
-        &["check", "s.c", "-"],
-    ];
-    let held = [("s.c", EMPTY), ("C", NO_CONDITIONS)];
-    for words in lists {
-        let (text, status) = run(&rt, words, &held, &[], &[])?;
-        assert_eq!(rt; text.as_str(), USAGE, "for {words:?}");
-        assert_eq!(rt; status, 2, "for {words:?}");
-    }
-    Ok(())
-}
+/// Words that are no command.
+const NO_COMMANDS: &[&[&str]] = &[
+    &[],
+    &["check"],
+    &["check", "s.c"],
+    &["check", "s.c", "c", "x"],
+    &["check", "s.c", "C", "x"],
+    &["frobnicate"],
+    &["verify", "s.c", "C"],
+    &["check", "", "C"],
+    &["check", "s.c", ""],
+    &["check", "-s.c", "C"],
+    &["check", "s.c", "-"],
+];
+
+/// Both names.
+const BOTH: Held<'static> = &[("s.c", EMPTY), ("C", NO_CONDITIONS)];
 
 #[test]
-fn faults(rt: HostRuntime) -> Result<(), Fail> {
-    let rows: [(&[u64], &[u64], &str, u8); 6] = [
-        (&[1], &[], "read fault: s.c\n", 6),
-        (&[2], &[], "read fault: s.c\n", 6),
-        (&[1, 2], &[], "read fault: s.c\n", 6),
-        (&[3], &[], "read fault: C\n", 6),
-        (&[4], &[], "read fault: C\n", 6),
-        (&[], &[1], "", 7),
-    ];
-    let held = [("s.c", EMPTY), ("C", NO_CONDITIONS)];
-    for (store_fails, sink_fails, line, status) in rows {
-        let (text, answer) = run(&rt, &["check", "s.c", "C"], &held, store_fails, sink_fails)?;
-        assert_eq!(rt; text.as_str(), line, "for {store_fails:?}");
-        assert_eq!(rt; answer, status, "for {store_fails:?}");
+fn words(rt: HostRuntime) {
+    for words in NO_COMMANDS {
+        print(&rt, rt.alloc(), words, BOTH, USAGE, 2);
     }
-    Ok(())
 }
 
+/// The store calls and the sink calls that fail, with the line and the status.
+const FAULTS: &[(&[u64], &[u64], &str, u8)] = &[
+    (&[1], &[], "read fault: s.c\n", 6),
+    (&[2], &[], "read fault: s.c\n", 6),
+    (&[1, 2], &[], "read fault: s.c\n", 6),
+    (&[3], &[], "read fault: C\n", 6),
+    (&[4], &[], "read fault: C\n", 6),
+    (&[], &[1], "", 7),
+];
+
 #[test]
-fn missing_names(rt: HostRuntime) -> Result<(), Fail> {
-    let rows: [(&[(&str, &str)], &str); 4] = [
-        (&[], "missing: s.c\n"),
-        (&[("C", NO_CONDITIONS)], "missing: s.c\n"),
-        (&[("s.c", EMPTY)], "missing: C\n"),
-        (&[("s.c", EMPTY), ("c", NO_CONDITIONS)], "missing: C\n"),
-    ];
-    for (held, line) in rows {
-        let (text, status) = run(&rt, &["check", "s.c", "C"], held, &[], &[])?;
-        assert_eq!(rt; text.as_str(), line);
-        assert_eq!(rt; status, 6);
+fn faults(rt: HostRuntime) {
+    for (store_fails, sink_fails, line, status) in FAULTS {
+        let answer = run(rt.alloc(), CHECK, BOTH, store_fails, sink_fails);
+        let (text, got) = answer.expect(&rt, "memory for a run");
+        is(
+            &rt,
+            &(*store_fails, text.as_str(), got),
+            &(*store_fails, *line, *status),
+        );
     }
-    Ok(())
+}
+
+/// What is held, with the line of a check where a name is missing.
+const MISSING: &[(Held<'static>, &str)] = &[
+    (&[], "missing: s.c\n"),
+    (&[("C", NO_CONDITIONS)], "missing: s.c\n"),
+    (&[("s.c", EMPTY)], "missing: C\n"),
+    (&[("s.c", EMPTY), ("c", NO_CONDITIONS)], "missing: C\n"),
+];
+
+#[test]
+fn missing_names(rt: HostRuntime) {
+    for (held, line) in MISSING {
+        print(&rt, rt.alloc(), CHECK, held, line, 6);
+    }
 }
 
 /// A sink that takes two bytes a call, and fails at its second call.
@@ -216,11 +239,10 @@ impl Sink for Narrow {
     }
 }
 
-#[test]
-fn narrow_sink(rt: HostRuntime) -> Result<(), Fail> {
-    let alloc = rt.alloc();
+/// What a check of the empty source writes to such a sink, and its status.
+fn narrowly(alloc: Global) -> Result<(Vec<u8>, u8), AllocError> {
     let mut words = Vec::new(alloc);
-    for word in ["check", "s.c", "C"] {
+    for word in CHECK {
         words.push(String::from_str(alloc, word)?)?;
     }
     let mut store = MemStore::new(alloc, Vec::new(alloc));
@@ -231,27 +253,28 @@ fn narrow_sink(rt: HostRuntime) -> Result<(), Fail> {
         calls: 0,
     };
     let status = vcc_main(alloc, &words, &mut store, &mut out);
-    assert_eq!(rt; status, 7);
-    assert_eq!(rt; out.written.as_slice(), b"ye".as_slice());
-    Ok(())
+    Ok((out.written, status))
+}
+
+#[test]
+fn narrow_sink(rt: HostRuntime) {
+    let (written, status) = narrowly(rt.alloc()).expect(&rt, "memory for a run");
+    is(&rt, &(written.as_slice(), status), &(b"ye".as_slice(), 7));
+}
+
+/// A source of so many blanks has this line and status.
+fn blanks_give(rt: &impl Abort, alloc: Global, count: usize, line: &str, status: u8) {
+    let mut source = String::new(alloc);
+    for _ in 0..count {
+        source.push_str(" ").expect(rt, "memory for a blank");
+    }
+    prints(rt, alloc, source.as_str(), NO_CONDITIONS, line, status);
 }
 
 /// A source of the greatest length that is allowed is read, and one of a byte more is refused by its length.
 #[test]
-fn long_sources(rt: HostRuntime) -> Result<(), Fail> {
+fn long_sources(rt: HostRuntime) {
     let alloc = rt.alloc();
-    for (count, line, status) in [
-        (1_048_576, "source 1:1048577: rule 24\n", 3),
-        (1_048_577, "limit: SourceBytes 1048576\n", 5),
-    ] {
-        let mut source = String::new(alloc);
-        for _ in 0..count {
-            source.push_str(" ")?;
-        }
-        let held = [("s.c", source.as_str()), ("C", NO_CONDITIONS)];
-        let (text, answer) = run(&rt, &["check", "s.c", "C"], &held, &[], &[])?;
-        assert_eq!(rt; text.as_str(), line);
-        assert_eq!(rt; answer, status);
-    }
-    Ok(())
+    blanks_give(&rt, alloc, 1_048_576, "source 1:1048577: rule 24\n", 3);
+    blanks_give(&rt, alloc, 1_048_577, "limit: SourceBytes 1048576\n", 5);
 }

@@ -1,11 +1,12 @@
 //! Sources, each with the terms of its conditions or its refusal. The expected texts were made by another program, written
 //! from the grammar, the translation and the numbering of docs/LANGUAGE.md and docs/CONDITIONS.md alone.
 
+use crate::rows::is;
 use first_conditions::condition::{Condition, checks, condition_of};
 use first_form::tree::Program;
 use std::alloc::{AllocError, Global};
 use std::fmt::Write;
-use std::test::Fail;
+use std::process::Abort;
 use terms::term::Term;
 use vcc_cli::program::read_program;
 use vcc_cli::refusal::Refusal;
@@ -194,18 +195,21 @@ fn refused(refusal: Refusal<'_>) -> &'static str {
     }
 }
 
-#[test]
-fn conditions_of_sources(rt: HostRuntime) -> Result<(), Fail> {
-    let alloc = rt.alloc();
-    for (source, want) in ROWS {
-        assert!(rt; source.len() <= 1000);
-        match read_program(alloc, source.as_bytes()) {
-            Ok(program) => {
-                let got = shown(alloc, &program)?;
-                assert_eq!(rt; got.as_str(), *want, "of {source}");
-            }
-            Err(refusal) => assert_eq!(rt; refused(refusal), *want, "of {source}"),
+/// A source has these conditions, or this refusal.
+fn gives(rt: &impl Abort, alloc: Global, source: &str, want: &str) {
+    is(rt, &(source.len() <= 1000), &true);
+    match read_program(alloc, source.as_bytes()) {
+        Ok(program) => {
+            let got = shown(alloc, &program).expect(rt, "memory for conditions");
+            is(rt, &(source, got.as_str()), &(source, want));
         }
+        Err(refusal) => is(rt, &(source, refused(refusal)), &(source, want)),
     }
-    Ok(())
+}
+
+#[test]
+fn conditions_of_sources(rt: HostRuntime) {
+    for (source, want) in ROWS {
+        gives(&rt, rt.alloc(), source, want);
+    }
 }

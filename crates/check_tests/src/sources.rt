@@ -2,9 +2,9 @@
 //! break. The expected places were marked by hand, from the grammar and the notes of docs/LANGUAGE.md; what reads has the first
 //! typing rule that it breaks, from docs/TYPING.md.
 
+use crate::rows::is;
 use std::alloc::{AllocError, Global};
 use std::process::Abort;
-use std::test::Fail;
 use test_sources::LOCK;
 use vcc_base::memory::{MemSink, MemStore};
 use vcc_cli::vcc_main;
@@ -671,8 +671,26 @@ const DEEP: &[(Repeated<'static>, usize)] = &[
     (("void main(int x) _(requires ", "(", "x", ")", ") {}"), 197),
 ];
 
+/// Sources, each with the line that `check` prints of it, without its end.
+pub type Table = &'static [(&'static str, &'static str)];
+
+/// All tables of this file.
+const TABLES: &[Table] = &[
+    STRUCTS,
+    FUNCTIONS,
+    DECLARATIONS,
+    ASSIGNMENTS,
+    CALLS,
+    BRANCHES,
+    ANNOTATIONS,
+    GHOSTS,
+    EXPRESSIONS,
+    SPECS,
+    TOKENS,
+];
+
 /// The line and the status of a check of this source, with a certificate of no conditions.
-pub fn checked(alloc: Global, source: &str) -> Result<(String, u8), Fail> {
+fn checked(alloc: Global, source: &str) -> Result<(String, u8), AllocError> {
     let mut words = Vec::new(alloc);
     for word in ["check", "s.c", "C"] {
         words.push(String::from_str(alloc, word)?)?;
@@ -687,6 +705,39 @@ pub fn checked(alloc: Global, source: &str) -> Result<(String, u8), Fail> {
         text.push(char::from(*byte))?;
     }
     Ok((text, status))
+}
+
+/// A check of this source gives this line and status.
+pub fn gives(rt: &impl Abort, alloc: Global, source: &str, line: &str, status: u8) {
+    let (text, answer) = checked(alloc, source).expect(rt, "memory for a check");
+    is(
+        rt,
+        &(source, text.as_str(), answer),
+        &(source, line, status),
+    );
+}
+
+/// Each source of a table has its line behind this front, and status 3.
+fn hold(rt: &impl Abort, alloc: Global, front: &str, table: Table) {
+    for (source, line) in table {
+        let text = repeated(alloc, &(front, source, "", "", ""), 1);
+        let whole = text.expect(rt, "memory for a source");
+        let answer = checked(alloc, whole.as_str());
+        let (mut printed, status) = answer.expect(rt, "memory for a check");
+        is(rt, &printed.pop(), &Some('\n'));
+        is(
+            rt,
+            &(*source, printed.as_str(), status),
+            &(*source, *line, 3),
+        );
+    }
+}
+
+/// Each source of these tables has its line behind this front, and status 3.
+pub fn all_hold(rt: &impl Abort, alloc: Global, front: &str, tables: &[Table]) {
+    for table in tables {
+        hold(rt, alloc, front, table);
+    }
 }
 
 /// How many bytes a source may have.
@@ -708,42 +759,7 @@ fn longest(
     Ok(source)
 }
 
-/// A source of the greatest length reads and types in good time: one long flat function, and the deepest brackets again and
-/// again.
-#[test]
-fn longest_sources(rt: HostRuntime) -> Result<(), Fail> {
-    let alloc = rt.alloc();
-    let flat = longest(
-        alloc,
-        "void main(int abcdefgh) {\n",
-        "abcdefgh = 1234567;\n",
-        52_427,
-        "}\n",
-    )?;
-    let brackets = ("x = ", "(     ", "0", ")     ", ";\n");
-    let deepest = repeated(alloc, &brackets, 196)?;
-    let deep = longest(alloc, "void main(int x) {\n", deepest.as_str(), 444, "}\n")?;
-    for source in [flat, deep] {
-        assert_eq!(rt; source.len(), MOST_BYTES);
-        let (text, status) = checked(alloc, source.as_str())?;
-        assert_eq!(rt; text.as_str(), "source: not built\n");
-        assert_eq!(rt; status, 3);
-    }
-    Ok(())
-}
-
-/// Each source of a table has its line, and status 3.
-fn hold(rt: &impl Abort, alloc: Global, table: &[(&str, &str)]) -> Result<(), Fail> {
-    for (source, line) in table {
-        let (mut text, status) = checked(alloc, source)?;
-        let end = text.pop();
-        assert_eq!(rt; text.as_str(), *line, "for {source}");
-        assert_eq!(rt; end, Some('\n'), "for {source}");
-        assert_eq!(rt; status, 3, "for {source}");
-    }
-    Ok(())
-}
-
+/// So many pieces behind the front, what stands in the middle, so many other pieces, and the end.
 fn repeated(alloc: Global, pieces: &Repeated<'_>, count: usize) -> Result<String, AllocError> {
     let (front, piece, middle, other, end) = *pieces;
     let mut source = String::from_str(alloc, front)?;
@@ -758,96 +774,61 @@ fn repeated(alloc: Global, pieces: &Repeated<'_>, count: usize) -> Result<String
     Ok(source)
 }
 
+/// A source of the greatest length reads and types.
+fn longest_types(rt: &impl Abort, alloc: Global, front: &str, piece: &str, count: usize) {
+    let source = longest(alloc, front, piece, count, "}\n").expect(rt, "memory for a source");
+    is(rt, &source.len(), &MOST_BYTES);
+    gives(rt, alloc, source.as_str(), "source: not built\n", 3);
+}
+
+/// A source of the greatest length reads and types in good time: one long flat function, and the deepest brackets again and
+/// again.
 #[test]
-fn the_lock_types(rt: HostRuntime) -> Result<(), Fail> {
-    let (text, status) = checked(rt.alloc(), LOCK)?;
-    assert_eq!(rt; text.as_str(), "source: not built\n");
-    assert_eq!(rt; status, 3);
-    Ok(())
+fn longest_sources(rt: HostRuntime) {
+    let alloc = rt.alloc();
+    let flat = "abcdefgh = 1234567;\n";
+    longest_types(&rt, alloc, "void main(int abcdefgh) {\n", flat, 52_427);
+    let brackets = ("x = ", "(     ", "0", ")     ", ";\n");
+    let deepest = repeated(alloc, &brackets, 196).expect(&rt, "memory for brackets");
+    longest_types(&rt, alloc, "void main(int x) {\n", deepest.as_str(), 444);
 }
 
 #[test]
-fn depths(rt: HostRuntime) -> Result<(), Fail> {
+fn the_lock_types(rt: HostRuntime) {
+    gives(&rt, rt.alloc(), LOCK, "source: not built\n", 3);
+}
+
+/// So many pieces have this line and status.
+fn repeated_gives(
+    rt: &impl Abort,
+    alloc: Global,
+    pieces: &Repeated<'_>,
+    count: usize,
+    line: &str,
+    status: u8,
+) {
+    let source = repeated(alloc, pieces, count).expect(rt, "memory for a source");
+    gives(rt, alloc, source.as_str(), line, status);
+}
+
+#[test]
+fn depths(rt: HostRuntime) {
     for (pieces, most) in DEEP {
-        for (count, line, answer) in [
-            (*most, "source: not built\n", 3),
-            (most.saturating_add(1), "limit: Depth 200\n", 5),
-        ] {
-            let source = repeated(rt.alloc(), pieces, count)?;
-            let (text, status) = checked(rt.alloc(), source.as_str())?;
-            assert_eq!(rt; text.as_str(), line, "for {pieces:?}");
-            assert_eq!(rt; status, answer, "for {pieces:?}");
-        }
+        let more = most.saturating_add(1);
+        repeated_gives(&rt, rt.alloc(), pieces, *most, "source: not built\n", 3);
+        repeated_gives(&rt, rt.alloc(), pieces, more, "limit: Depth 200\n", 5);
     }
-    Ok(())
 }
 
 /// A source of as many tokens as there may be reads, and one of a token more is refused.
 #[test]
-fn counts_of_tokens(rt: HostRuntime) -> Result<(), Fail> {
-    for (count, line, answer) in [
-        (262_138, "source: not built\n", 3),
-        (262_139, "limit: Tokens 262144\n", 5),
-    ] {
-        let source = repeated(rt.alloc(), &("void main() {", ";", "", "", "}"), count)?;
-        let (text, status) = checked(rt.alloc(), source.as_str())?;
-        assert_eq!(rt; text.as_str(), line);
-        assert_eq!(rt; status, answer);
-    }
-    Ok(())
+fn counts_of_tokens(rt: HostRuntime) {
+    let flat = ("void main() {", ";", "", "", "}");
+    repeated_gives(&rt, rt.alloc(), &flat, 262_138, "source: not built\n", 3);
+    repeated_gives(&rt, rt.alloc(), &flat, 262_139, "limit: Tokens 262144\n", 5);
 }
 
 #[test]
-fn structs(rt: HostRuntime) -> Result<(), Fail> {
-    hold(&rt, rt.alloc(), STRUCTS)
-}
-
-#[test]
-fn functions(rt: HostRuntime) -> Result<(), Fail> {
-    hold(&rt, rt.alloc(), FUNCTIONS)
-}
-
-#[test]
-fn declarations(rt: HostRuntime) -> Result<(), Fail> {
-    hold(&rt, rt.alloc(), DECLARATIONS)
-}
-
-#[test]
-fn assignments(rt: HostRuntime) -> Result<(), Fail> {
-    hold(&rt, rt.alloc(), ASSIGNMENTS)
-}
-
-#[test]
-fn calls(rt: HostRuntime) -> Result<(), Fail> {
-    hold(&rt, rt.alloc(), CALLS)
-}
-
-#[test]
-fn branches(rt: HostRuntime) -> Result<(), Fail> {
-    hold(&rt, rt.alloc(), BRANCHES)
-}
-
-#[test]
-fn annotations(rt: HostRuntime) -> Result<(), Fail> {
-    hold(&rt, rt.alloc(), ANNOTATIONS)
-}
-
-#[test]
-fn ghosts(rt: HostRuntime) -> Result<(), Fail> {
-    hold(&rt, rt.alloc(), GHOSTS)
-}
-
-#[test]
-fn expressions(rt: HostRuntime) -> Result<(), Fail> {
-    hold(&rt, rt.alloc(), EXPRESSIONS)
-}
-
-#[test]
-fn specs(rt: HostRuntime) -> Result<(), Fail> {
-    hold(&rt, rt.alloc(), SPECS)
-}
-
-#[test]
-fn tokens(rt: HostRuntime) -> Result<(), Fail> {
-    hold(&rt, rt.alloc(), TOKENS)
+fn tables(rt: HostRuntime) {
+    all_hold(&rt, rt.alloc(), "", TABLES);
 }

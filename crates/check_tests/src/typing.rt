@@ -1,11 +1,11 @@
 //! Sources that break a typing rule, or come near to it, with the lines that `check` prints for them. Which rule is broken
 //! where was worked out by hand, from docs/TYPING.md and the definitions of the rules.
 
-use crate::sources::checked;
+use crate::rows::is;
+use crate::sources::{Table, all_hold, gives};
 use std::alloc::{AllocError, Global};
 use std::fmt::Write;
 use std::process::Abort;
-use std::test::Fail;
 
 /// What stands in front of each source, in one line.
 const DECLARATIONS: &str = "\
@@ -783,68 +783,14 @@ const ORDER: &[(&str, &str)] = &[
     ("int f() { } void main() { y = 1; }", "source 2:11: rule 21"),
 ];
 
-/// Each source of a table has its line behind the declarations, and status 3.
-fn hold(rt: &impl Abort, alloc: Global, table: &[(&str, &str)]) -> Result<(), Fail> {
-    for (source, line) in table {
-        let mut text = String::from_str(alloc, DECLARATIONS)?;
-        text.push_str(source)?;
-        let (mut printed, status) = checked(alloc, text.as_str())?;
-        let end = printed.pop();
-        assert_eq!(rt; printed.as_str(), *line, "for {source}");
-        assert_eq!(rt; end, Some('\n'), "for {source}");
-        assert_eq!(rt; status, 3, "for {source}");
-    }
-    Ok(())
-}
+/// All tables of this file.
+const TABLES: &[Table] = &[
+    NAMES, VALUES, CALLS, GHOSTS, ATOMIC, OWNERSHIP, INVARIANTS, WORDS, FUNCTIONS, ORDER,
+];
 
 #[test]
-fn names(rt: HostRuntime) -> Result<(), Fail> {
-    hold(&rt, rt.alloc(), NAMES)
-}
-
-#[test]
-fn values(rt: HostRuntime) -> Result<(), Fail> {
-    hold(&rt, rt.alloc(), VALUES)
-}
-
-#[test]
-fn calls(rt: HostRuntime) -> Result<(), Fail> {
-    hold(&rt, rt.alloc(), CALLS)
-}
-
-#[test]
-fn ghosts(rt: HostRuntime) -> Result<(), Fail> {
-    hold(&rt, rt.alloc(), GHOSTS)
-}
-
-#[test]
-fn atomic(rt: HostRuntime) -> Result<(), Fail> {
-    hold(&rt, rt.alloc(), ATOMIC)
-}
-
-#[test]
-fn ownership(rt: HostRuntime) -> Result<(), Fail> {
-    hold(&rt, rt.alloc(), OWNERSHIP)
-}
-
-#[test]
-fn invariants(rt: HostRuntime) -> Result<(), Fail> {
-    hold(&rt, rt.alloc(), INVARIANTS)
-}
-
-#[test]
-fn words(rt: HostRuntime) -> Result<(), Fail> {
-    hold(&rt, rt.alloc(), WORDS)
-}
-
-#[test]
-fn functions(rt: HostRuntime) -> Result<(), Fail> {
-    hold(&rt, rt.alloc(), FUNCTIONS)
-}
-
-#[test]
-fn order(rt: HostRuntime) -> Result<(), Fail> {
-    hold(&rt, rt.alloc(), ORDER)
+fn tables(rt: HostRuntime) {
+    all_hold(&rt, rt.alloc(), DECLARATIONS, TABLES);
 }
 
 /// So many structs, functions over them, and variables of `main`, each with names of its own.
@@ -869,20 +815,26 @@ fn many_names(alloc: Global, count: u32) -> Result<String, AllocError> {
 /// How many of each there are in a source that comes near to the limits of bytes and tokens.
 const MANY: u32 = 4_600;
 
+/// A source of so many names, with this end, has this line, and status 3.
+fn many_give(rt: &impl Abort, alloc: Global, end: &str, line: &str) {
+    let mut source = many_names(alloc, MANY).expect(rt, "memory for a source");
+    source.push_str(end).expect(rt, "memory for its end");
+    is(
+        rt,
+        &(source.len() > 1_000_000, source.len() <= 1_048_576),
+        &(true, true),
+    );
+    gives(rt, alloc, source.as_str(), line, 3);
+}
+
 /// A source of more than 30,000 names types in good time; and one with a name more that isn't declared is refused there.
 #[test]
-fn many_names_type(rt: HostRuntime) -> Result<(), Fail> {
-    let alloc = rt.alloc();
-    for (end, line) in [
-        ("}\n", "source: not built\n"),
-        ("value1 = w;\n}\n", "source 13802:10: rule 1\n"),
-    ] {
-        let mut source = many_names(alloc, MANY)?;
-        source.push_str(end)?;
-        assert!(rt; source.len() > 1_000_000 && source.len() <= 1_048_576);
-        let (text, status) = checked(alloc, source.as_str())?;
-        assert_eq!(rt; text.as_str(), line);
-        assert_eq!(rt; status, 3);
-    }
-    Ok(())
+fn many_names_type(rt: HostRuntime) {
+    many_give(&rt, rt.alloc(), "}\n", "source: not built\n");
+    many_give(
+        &rt,
+        rt.alloc(),
+        "value1 = w;\n}\n",
+        "source 13802:10: rule 1\n",
+    );
 }

@@ -60,14 +60,20 @@ pub fn all_hold<'a, R: Reader>(rt: &impl Abort, alloc: Global, lists: &[List<'a,
     }
 }
 
-/// The rows tell what is read of these tokens.
+/// The rows tell what is read of tokens of these kinds.
 fn hold<R: Reader>(rt: &impl Abort, alloc: Global, kinds: Tokens, rows: &[Row<R>]) {
     let list = by_hand(rt, alloc, kinds);
-    for (reader, room, at, want) in rows {
-        let text = reader.tell(alloc, *room, from(&list, *at));
-        let got = text.expect(rt, "memory for a text");
-        is(rt, &(*room, *at, got.as_str()), &(*room, *at, *want));
+    for row in rows {
+        holds(rt, alloc, &list, row);
     }
+}
+
+/// The row tells what is read of these tokens.
+fn holds<'a, R: Reader>(rt: &impl Abort, alloc: Global, list: &'a [Token<'a>], row: &Row<R>) {
+    let (reader, room, at, want) = row;
+    let text = reader.tell(alloc, *room, from(list, *at));
+    let got = text.expect(rt, "memory for a text");
+    is(rt, &(*room, *at, got.as_str()), &(*room, *at, *want));
 }
 
 /// What is told of a short source.
