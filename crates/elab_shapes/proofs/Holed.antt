@@ -32,6 +32,9 @@ claims_opened whole x a xs as' k m is e f g = (λ i. t.SClaims (e i) (g i)) ∙ 
 pub exists_opened : (number : ℕ) (ty : DeclaredType) (whole x a : t.Spec) (xs as' : t.Specs) (k m : ℕ) → whole ≡ t.SExists number ty x xs → a ≡ opened k x → m ≡ k + size x → as' ≡ all_opened m xs → t.SExists number ty a as' ≡ opened k whole
 exists_opened number ty whole x a xs as' k m is e f g = (λ i. t.SExists number ty (e i) (g i)) ∙ (ap (λ n. t.SExists number ty (opened k x) (all_opened n xs)) f ∙ ap (opened k) (sym is))
 
+pub claims_only_opened : (number : ℕ) (whole x a : t.Spec) (xs as' : t.Specs) (k m : ℕ) → whole ≡ t.SClaimsOnly number x xs → a ≡ opened k x → m ≡ k + size x → as' ≡ all_opened m xs → t.SClaimsOnly number a as' ≡ opened k whole
+claims_only_opened number whole x a xs as' k m is e f g = (λ i. t.SClaimsOnly number (e i) (g i)) ∙ (ap (λ n. t.SClaimsOnly number (opened k x) (all_opened n xs)) f ∙ ap (opened k) (sym is))
+
 pub both_counted : (whole x : t.Spec) (xs : t.Specs) (k m n : ℕ) → holes whole ≡ holes x ++ all_holes xs → m ≡ k + size x → n ≡ m + length (all_holes xs) → n ≡ k + size whole
 both_counted whole x xs k m n is e f =
     let sum = ap length is ∙ length-append (holes x) (all_holes xs) in

@@ -48,3 +48,6 @@ module _ (l : List Shape) (h : Sorts) where
 
   pub exists_numbered : (number : ℕ) (ty : DeclaredType) (whole x a : Spec) (xs as' : Specs) → whole ≡ t.SExists number ty x xs → a ≡ numbered l h x → as' ≡ all_numbered l h xs → t.SExists number ty a as' ≡ numbered l h whole
   exists_numbered number ty whole x a xs as' is e f = (λ i. t.SExists number ty (e i) (f i)) ∙ ap (numbered l h) (sym is)
+
+  pub claims_only_numbered : (number : ℕ) (whole x a : Spec) (xs as' : Specs) → whole ≡ t.SClaimsOnly number x xs → a ≡ numbered l h x → as' ≡ all_numbered l h xs → t.SClaimsOnly number a as' ≡ numbered l h whole
+  claims_only_numbered number whole x a xs as' is e f = (λ i. t.SClaimsOnly number (e i) (f i)) ∙ ap (numbered l h) (sym is)

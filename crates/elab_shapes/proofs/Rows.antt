@@ -7,7 +7,7 @@ use Rattle.method.specs.declared.program.DeclaredType.{DeclaredType}
 use Rattle.method.specs.declared.program.Spec as s
 use Rattle.typed_program.specs.Trees as t
 use Rattle.typed_program.specs.Views.{spec, in_row}
-use Rattle.typed_program.proofs.Vectors.{claims, exists}
+use Rattle.typed_program.proofs.Vectors.{claims, exists, claims_only}
 
 -- what `\claims` of these parts says
 pub claims_of : (whole : s.Spec) (x : Box s.Spec Global) (xs : Vec s.Spec Global) (y : s.Spec) (ys : List s.Spec) → whole ≡ s.Claims x xs → y ≡ x.value → ys ≡ xs.items → spec whole ≡ t.SClaims (spec y) (in_row ys)
@@ -16,6 +16,10 @@ claims_of whole x xs y ys is first rest = ap spec is ∙ (claims x xs ∙ λ i. 
 -- what `\exists` of these parts says
 pub exists_of : (whole : s.Spec) (k : ℕ) (ty : DeclaredType) (x : Box s.Spec Global) (xs : Vec s.Spec Global) (y : s.Spec) (ys : List s.Spec) → whole ≡ s.Exists k ty x xs → y ≡ x.value → ys ≡ xs.items → spec whole ≡ t.SExists k ty (spec y) (in_row ys)
 exists_of whole k ty x xs y ys is first rest = ap spec is ∙ (exists k ty x xs ∙ λ i. t.SExists k ty (spec (sym first i)) (in_row (sym rest i)))
+
+-- what `\claims_only` of these parts says
+pub claims_only_of : (whole : s.Spec) (k : ℕ) (x : Box s.Spec Global) (xs : Vec s.Spec Global) (y : s.Spec) (ys : List s.Spec) → whole ≡ s.ClaimsOnly k x xs → y ≡ x.value → ys ≡ xs.items → spec whole ≡ t.SClaimsOnly k (spec y) (in_row ys)
+claims_only_of whole k x xs y ys is first rest = ap spec is ∙ (claims_only k x xs ∙ λ i. t.SClaimsOnly k (spec (sym first i)) (in_row (sym rest i)))
 
 -- a list grows by one part and by another
 pub grown : {X A E : Type 0} (r : Result A E) (old middle new first second whole : List X) → middle ≡ old ++ first → whole ≡ first ++ second → OnOk r (new ≡ middle ++ second) → OnOk r (new ≡ old ++ whole)

@@ -101,6 +101,10 @@ pub fn add_shapes(
             add_shapes(alloc, sorts, x, so_far)?;
             add_all(alloc, sorts, xs, so_far)
         }
+        Spec::ClaimsOnly(_, x, xs) => {
+            add_shapes(alloc, sorts, x, so_far)?;
+            add_all(alloc, sorts, xs, so_far)
+        }
     }
 }
 

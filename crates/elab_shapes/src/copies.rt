@@ -31,3 +31,10 @@ pub fn exists_of(number: u32, ty: DeclaredType, owner: Box<Spec>, conjuncts: Vec
 {
     Spec::Exists(number, ty, owner, conjuncts)
 }
+
+/// `\claims_only` of a claim and these objects.
+pub fn claims_only_of(number: u32, claim: Box<Spec>, objects: Vec<Spec>) -> Spec
+    ensures { seen.spec result ≡ t.SClaimsOnly number (seen.spec claim.value) (seen.in_row objects.items) }
+{
+    Spec::ClaimsOnly(number, claim, objects)
+}

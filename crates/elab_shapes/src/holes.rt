@@ -73,6 +73,10 @@ fn add_holes(x: &Spec, so_far: &mut Vec<Hole>) -> Result<(), AllocError>
             add_holes(x, so_far)?;
             add_all_holes(xs, so_far)
         }
+        Spec::ClaimsOnly(_, x, xs) => {
+            add_holes(x, so_far)?;
+            add_all_holes(xs, so_far)
+        }
         Spec::Has(conjunct) => add_filled(conjunct, so_far),
     }
 }

@@ -8,7 +8,7 @@ ghost use Rattle.typed_program.specs.Views as seen;
 ghost use Rattle.elab_shapes.specs.Conjuncts.{numbered_conjunct};
 ghost use Rattle.elab_shapes.specs.Views.{sorts as sorts_seen};
 
-use crate::copies::{claims_of, copied, exists_of};
+use crate::copies::{claims_of, claims_only_of, copied, exists_of};
 use crate::holes::holes;
 use crate::same::same_shape;
 use crate::shapes::shape;
@@ -221,6 +221,11 @@ fn with_numbers(
             let x = with_numbers(alloc, shapes, sorts, x)?;
             let xs = all_with_numbers(alloc, shapes, sorts, xs)?;
             boxed(alloc, exists_of(*number, *ty, x, xs))
+        }
+        Spec::ClaimsOnly(number, x, xs) => {
+            let x = with_numbers(alloc, shapes, sorts, x)?;
+            let xs = all_with_numbers(alloc, shapes, sorts, xs)?;
+            boxed(alloc, claims_only_of(*number, x, xs))
         }
     }
 }

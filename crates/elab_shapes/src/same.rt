@@ -48,8 +48,8 @@ fn same_sorts(xs: &[Sort], ys: &[Sort]) -> bool
     xs == ys
 }
 
-/// Whether two conjuncts with their holes are one tree. Quantifiers stand in none, nor do conjuncts that are numbered
-/// already.
+/// Whether two conjuncts with their holes are one tree. Quantifiers and `\claims_only` stand in none, nor do conjuncts
+/// that are numbered already.
 #[cycle(same)]
 fn same(x: &Spec, y: &Spec) -> bool
     ensures { result ≡ spec.same (seen.spec x.now) (seen.spec y.now) }
@@ -142,7 +142,7 @@ fn same(x: &Spec, y: &Spec) -> bool
         Spec::Bound(_) | Spec::This | Spec::Me | Spec::Result => false,
         Spec::Old(_) | Spec::Unchanged(_) | Spec::Wrapped(_) | Spec::Wrapped0(_) => false,
         Spec::Mutable(_) | Spec::Fresh(_) | Spec::Has(_) => false,
-        Spec::ForAll(_, _, _, _) | Spec::Exists(_, _, _, _) => false,
+        Spec::ForAll(_, _, _, _) | Spec::Exists(_, _, _, _) | Spec::ClaimsOnly(_, _, _) => false,
     }
 }
 

@@ -5,7 +5,7 @@ ghost use Rattle.typed_program.specs.Shapes as spec;
 ghost use Rattle.typed_program.specs.Views as seen;
 ghost use Rattle.elab_shapes.specs.Views.{sorts as sorts_seen};
 
-use crate::copies::{claims_of, copied, exists_of};
+use crate::copies::{claims_of, claims_only_of, copied, exists_of};
 use crate::holes::holes;
 use crate::sorts::{Sorts, sort_of};
 use method::program::{Conjunct, Hole, Shape, Sort, Spec};
@@ -193,6 +193,11 @@ fn opened(alloc: Global, next: u32, x: &Spec) -> Result<WithHoles, AllocError>
             let x = opened(alloc, next, x)?;
             let xs = all_opened(alloc, x.next, xs)?;
             boxed(alloc, exists_of(*number, *ty, x.spec, xs.specs), xs.next)
+        }
+        Spec::ClaimsOnly(number, x, xs) => {
+            let x = opened(alloc, next, x)?;
+            let xs = all_opened(alloc, x.next, xs)?;
+            boxed(alloc, claims_only_of(*number, x.spec, xs.specs), xs.next)
         }
     }
 }

@@ -1,14 +1,15 @@
--- What a quantifier asks of the members of an owned set, and a list of conjuncts of a scene, as the values and first overflows of quantified expressions have it (crate method, SpecValue and Overflow). Own.
-use Rattle.std.specs.Prelude.{Bool, not, ◌&&◌, ◌||◌, if◌then◌else◌, List, Option, None}
+-- What a quantifier asks of the members of an owned set, and a list of conjuncts or of objects of a scene, as the values and first overflows of quantified expressions have it (crate method, SpecValue and Overflow). Own.
+use Rattle.std.specs.Prelude.{Bool, not, ◌&&◌, ◌||◌, if◌then◌else◌, List, [], ◌∷◌, map, Option, None}
 use Rattle.object_types.specs.declared.references.Ref.{Ref}
 use Rattle.object_types.specs.declared.values.Value.TheVariants.{Ref as Refers}
+use Rattle.object_types.specs.Values.{referent}
 use Rattle.object_types.specs.Sets.{every, some}
 use Rattle.method.specs.declared.program.DeclaredType.{DeclaredType}
 use Rattle.method.specs.declared.program.Program.{Program}
 use Rattle.method.specs.declared.program.Spec.{Spec}
 use Rattle.method.specs.Tables.{in_type}
-use Rattle.method.specs.SpecValue.{Scene, holds, bind_ref}
-use Rattle.method.specs.Overflow.{Overflow, overflow, list_overflow, until}
+use Rattle.method.specs.SpecValue.{Scene, value, holds, bind_ref}
+use Rattle.method.specs.Overflow.{Overflow, overflow, list_overflow, or_else, until}
 
 module _ (p : Program) where
   -- each conjunct holds
@@ -46,3 +47,12 @@ module _ (p : Program) where
   -- the first overflow on the way to that, which ends at a member of which they hold
   abbrev pub of_some_overflow : DeclaredType → List Spec → Scene → List Ref → Option Overflow
   of_some_overflow ty es s ms = until (met_overflow ty es s) (is_met ty es s) ms
+
+  -- the objects that expressions stand for
+  abbrev pub list_referents : List Spec → Scene → List Ref
+  list_referents es s = map (λ e. referent (value p e s)) es
+
+  -- the first overflow on the way to all of them
+  abbrev pub referents_overflow : List Spec → Scene → Option Overflow
+  referents_overflow [] s = None
+  referents_overflow (e ∷ es) s = or_else (overflow p e s) (referents_overflow es s)

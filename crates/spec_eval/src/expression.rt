@@ -2,15 +2,16 @@
 
 ghost use Rattle.std.specs.Prelude.{◌≡◌, ◌||◌, ◌&&◌, not, if◌then◌else◌, None};
 ghost use Rattle.object_types.specs.Values.{says, truth};
-ghost use Rattle.method.specs.SpecValue.{value, holds};
+ghost use Rattle.object_types.specs.Sets.{every, is_in};
+ghost use Rattle.method.specs.SpecValue.{value, holds, is_exactly};
 ghost use Rattle.method.specs.Overflow.{overflow, list_overflow};
 ghost use Rattle.spec_eval.specs.Scenes.{scene_at};
 ghost use Rattle.spec_eval.specs.Answers.{Gives};
-ghost use Rattle.spec_eval.specs.Quantified.{each_holds, holds_there, overflow_there, is_met, met_overflow, of_each, of_each_overflow, of_some, of_some_overflow};
+ghost use Rattle.spec_eval.specs.Quantified.{each_holds, holds_there, overflow_there, is_met, met_overflow, of_each, of_each_overflow, of_some, of_some_overflow, list_referents, referents_overflow};
 
 use crate::claims::has;
 use crate::place::{Bound, Place};
-use crate::status::is_of;
+use crate::status::{contains, is_of};
 use crate::values::{is_true, referent, says};
 use crate::words;
 use int_ranges::exact::Wide;
@@ -66,6 +67,9 @@ pub fn work_out(at: &Place<'_>, e: &Spec) -> Result<Value, Wide>
             work_out(at, c)?,
             work_out(at, o)?,
         )),
+        Spec::ClaimsOnly(_, c, objects) => {
+            claims_only(at, words::listed(at, work_out(at, c)?), objects)
+        }
         Spec::Claims(c, conjuncts) => all_hold(&at.about(referent(work_out(at, c)?)), conjuncts),
         Spec::Lists(o) => Ok(words::lists(at, at.subject, work_out(at, o)?)),
         Spec::Has(conjunct) => Ok(says(has(at, conjunct))),
@@ -186,4 +190,59 @@ fn exists(
         }
     }
     Ok(says(false))
+}
+
+/// Whether each of the objects is in the set. All are worked out, also behind one that is not.
+#[cycle(work_out)]
+#[tactic(auto, using(crate::proofs::Objects::all_err, crate::proofs::Objects::all_next, crate::proofs::Objects::all_end, crate::proofs::Objects::all_fits))]
+fn all_listed(at: &Place<'_>, set: &[Ref], objects: &[Spec]) -> Result<bool, Wide>
+    ensures { let p = at.now.program.now in let s = scene_at at.now in Gives result (every (λ o. is_in o set.now) (list_referents p objects.now s)) (referents_overflow p objects.now s) }
+{
+    let mut all = true;
+    for object in objects {
+        let o = referent(work_out(at, object)?);
+        all &= contains(set, o);
+    }
+    Ok(all)
+}
+
+/// Whether the member is one of the objects, none of which overflows.
+#[cycle(work_out)]
+#[tactic(auto, using(crate::proofs::Objects::one_err, crate::proofs::Objects::one_true, crate::proofs::Objects::one_next, crate::proofs::Objects::one_end))]
+fn is_object(at: &Place<'_>, member: Ref, objects: &[Spec]) -> Result<bool, Wide>
+    requires { referents_overflow at.now.program.now objects.now (scene_at at.now) ≡ None }
+    ensures { Gives result (is_in member (list_referents at.now.program.now objects.now (scene_at at.now))) None }
+{
+    for object in objects {
+        if member.is_same(referent(work_out(at, object)?)) {
+            return Ok(true);
+        }
+    }
+    Ok(false)
+}
+
+/// Whether each member of the set is one of the objects, none of which overflows.
+#[cycle(work_out)]
+#[tactic(auto, using(crate::proofs::Objects::every_false, crate::proofs::Objects::every_next, crate::proofs::Objects::every_end))]
+fn no_others(at: &Place<'_>, set: &[Ref], objects: &[Spec]) -> Result<bool, Wide>
+    requires { referents_overflow at.now.program.now objects.now (scene_at at.now) ≡ None }
+    ensures { let os = list_referents at.now.program.now objects.now (scene_at at.now) in Gives result (every (λ o. is_in o os) set.now) None }
+{
+    for member in set {
+        if !is_object(at, *member, objects)? {
+            return Ok(false);
+        }
+    }
+    Ok(true)
+}
+
+/// Whether the set has the objects as its members, and no others.
+#[cycle(work_out)]
+fn claims_only(at: &Place<'_>, set: &[Ref], objects: &[Spec]) -> Result<Value, Wide>
+    ensures { let p = at.now.program.now in let s = scene_at at.now in Gives result (says (is_exactly set.now (list_referents p objects.now s))) (referents_overflow p objects.now s) }
+{
+    if !all_listed(at, set, objects)? {
+        return Ok(says(false));
+    }
+    Ok(says(no_others(at, set, objects)?))
 }

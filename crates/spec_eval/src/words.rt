@@ -58,6 +58,13 @@ pub fn owned<'a>(at: &Place<'a>, x: Value) -> &'a [Ref]
     at.after.owned(referent(x))
 }
 
+/// The objects that the claim claims.
+pub fn listed<'a>(at: &Place<'a>, claim: Value) -> &'a [Ref]
+    ensures { result.now ≡ (look_up at.now.after.now (referent claim)).listed }
+{
+    at.after.listed(referent(claim))
+}
+
 /// `o \in x->\owns`
 pub fn member(at: &Place<'_>, o: Value, x: Value) -> Value
     ensures { result ≡ says (is_in (referent o) (look_up at.now.after.now (referent x)).owned) }

@@ -294,6 +294,7 @@ module _ (sites : List ClaimSite) (parameters : ℕ) (is : List ℕ) where
     holes_read (t.SHas c) h = h
     holes_read (t.SForAll n ty x y) h = two_filled x y (holes_read x) (holes_read y) h
     holes_read (t.SExists n ty x ys) h = row_filled x ys (holes_read x) (all_holes_read ys) h
+    holes_read (t.SClaimsOnly n x ys) h = row_filled x ys (holes_read x) (all_holes_read ys) h
 
     all_holes_read : (xs : Specs) → AllIn xs → Filled (all_holes xs)
     all_holes_read t.Stop h = refl
@@ -332,6 +333,7 @@ module _ (sites : List ClaimSite) (parameters : ℕ) (is : List ℕ) where
       numbered_read (t.SLists x) h = numbered_read x h
       numbered_read (t.SForAll n ty x y) h = two_numbered x y (numbered_read x) (numbered_read y) h
       numbered_read (t.SExists n ty x ys) h = and_both _ _ (numbered_read x (and_left (spec_in sites parameters is x) (specs_in sites parameters is ys) h)) (row_numbered ys (and_right (spec_in sites parameters is x) (specs_in sites parameters is ys) h))
+      numbered_read (t.SClaimsOnly n x ys) h = and_both _ _ (numbered_read x (and_left (spec_in sites parameters is x) (specs_in sites parameters is ys) h)) (row_numbered ys (and_right (spec_in sites parameters is x) (specs_in sites parameters is ys) h))
       numbered_read _ h = h
 
       row_numbered : (xs : Specs) → AllIn xs → AllIn (all_numbered l s xs)

@@ -2,7 +2,7 @@ use Rattle.std.proofs.Common.{map, ap}
 use Rattle.typed_program.specs.Shapes.{shapes_in}
 use Rattle.typed_program.specs.Views.{shape}
 use Rattle.elab_shapes.specs.Views.{sorts as sorts_seen}
-use Rattle.elab_shapes.proofs.Rows.{claims_of, exists_of, grown}
+use Rattle.elab_shapes.proofs.Rows.{claims_of, exists_of, claims_only_of, grown}
 use Rattle.elab_shapes.proofs.Collecting.{conjunct_added}
 use Rattle.elab_shapes.proofs.collect.+add_shapes.Goals as goal
 
@@ -15,6 +15,11 @@ pub add_shapes-returns-in_ok-add_shapes-in-Exists : goal.add_shapes-returns-in_o
 add_shapes-returns-in_ok-add_shapes-in-Exists t c =
     let s = c.in-Exists in
     grown c.add_all.result _ _ _ _ _ _ c.in_ok-add_shapes-in-Exists.ensures (ap (shapes_in (sorts_seen c.args.sorts.now)) (exists_of c.args.x.now s.field-0 s.field-1 s.x s.xs c.deref-in-Exists.result.now c.deref-in-Exists-2.result.now s.is c.deref-in-Exists.ensures c.deref-in-Exists-2.ensures.value)) c.add_all.ensures
+
+pub add_shapes-returns-in_ok-add_shapes-in-ClaimsOnly : goal.add_shapes-returns-in_ok-add_shapes-in-ClaimsOnly
+add_shapes-returns-in_ok-add_shapes-in-ClaimsOnly t c =
+    let s = c.in-ClaimsOnly in
+    grown c.add_all-in-ClaimsOnly.result _ _ _ _ _ _ c.in_ok-add_shapes-in-ClaimsOnly.ensures (ap (shapes_in (sorts_seen c.args.sorts.now)) (claims_only_of c.args.x.now s.field-0 s.x s.xs c.deref-in-ClaimsOnly.result.now c.deref-in-ClaimsOnly-2.result.now s.is c.deref-in-ClaimsOnly.ensures c.deref-in-ClaimsOnly-2.ensures.value)) c.add_all-in-ClaimsOnly.ensures
 
 pub add_conjuncts-loop-x-preserved : goal.add_conjuncts-loop-x-preserved
 add_conjuncts-loop-x-preserved t c =

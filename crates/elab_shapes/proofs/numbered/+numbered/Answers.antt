@@ -1,8 +1,8 @@
 use Rattle.std.proofs.Common.{map, ap, ◌∙◌, arith}
 use Rattle.typed_program.specs.Views.{spec, in_row, shape as shape_seen}
 use Rattle.elab_shapes.specs.Views.{sorts as sorts_seen}
-use Rattle.elab_shapes.proofs.Rows.{claims_of, exists_of, told, told_by, one_done, all_done}
-use Rattle.elab_shapes.proofs.Numbering.{other_conjunct, one_numbered, none_numbered, conjunct_numbered, no_conjunct, claims_numbered, exists_numbered}
+use Rattle.elab_shapes.proofs.Rows.{claims_of, exists_of, claims_only_of, told, told_by, one_done, all_done}
+use Rattle.elab_shapes.proofs.Numbering.{other_conjunct, one_numbered, none_numbered, conjunct_numbered, no_conjunct, claims_numbered, exists_numbered, claims_only_numbered}
 use Rattle.elab_shapes.proofs.numbered.+numbered.Goals as goal
 
 pub with_numbers-returns-in_ok-xs-in-Claims : goal.with_numbers-returns-in_ok-xs-in-Claims
@@ -20,6 +20,14 @@ with_numbers-returns-in_ok-xs-in-Exists t c =
     (c.exists_of.ensures ∙ exists_numbered (map shape_seen c.args.shapes.now) (sorts_seen c.args.sorts.now) s.number s.ty (spec c.args.x.now) (spec c.deref-in-Exists.result.now) (spec c.in_ok-x-in-Exists.x.value) (in_row c.deref-in-Exists-2.result.now) (in_row c.in_ok-xs-in-Exists.xs.items)
     (exists_of c.args.x.now s.number s.ty s.x s.xs c.deref-in-Exists.result.now c.deref-in-Exists-2.result.now s.is c.deref-in-Exists.ensures c.deref-in-Exists-2.ensures.value)
     c.in_ok-x-in-Exists.ensures c.in_ok-xs-in-Exists.ensures)
+
+pub with_numbers-returns-in_ok-xs-in-ClaimsOnly : goal.with_numbers-returns-in_ok-xs-in-ClaimsOnly
+with_numbers-returns-in_ok-xs-in-ClaimsOnly t c =
+    let s = c.in-ClaimsOnly in
+    told_by c.boxed-in-ClaimsOnly.result (λ b. b.value) spec _ _ c.boxed-in-ClaimsOnly.ensures
+    (c.claims_only_of.ensures ∙ claims_only_numbered (map shape_seen c.args.shapes.now) (sorts_seen c.args.sorts.now) s.number (spec c.args.x.now) (spec c.deref-in-ClaimsOnly.result.now) (spec c.in_ok-x-in-ClaimsOnly.x.value) (in_row c.deref-in-ClaimsOnly-2.result.now) (in_row c.in_ok-xs-in-ClaimsOnly.xs.items)
+    (claims_only_of c.args.x.now s.number s.x s.xs c.deref-in-ClaimsOnly.result.now c.deref-in-ClaimsOnly-2.result.now s.is c.deref-in-ClaimsOnly.ensures c.deref-in-ClaimsOnly-2.ensures.value)
+    c.in_ok-x-in-ClaimsOnly.ensures c.in_ok-xs-in-ClaimsOnly.ensures)
 
 pub all_with_numbers-loop-x-preserved : goal.all_with_numbers-loop-x-preserved
 all_with_numbers-loop-x-preserved t c =

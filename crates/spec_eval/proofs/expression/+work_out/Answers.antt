@@ -1,8 +1,15 @@
 use Rattle.std.proofs.Common.{ap, Bor}
 use Rattle.method.specs.declared.program.Program.{Program}
 use Rattle.spec_eval.specs.Scenes.{scene_at}
-use Rattle.spec_eval.proofs.Conjuncts.{claims_gives, for_all_gives, exists_gives}
+use Rattle.spec_eval.proofs.Conjuncts.{claims_gives, claims_only_gives, for_all_gives, exists_gives}
 use Rattle.spec_eval.proofs.expression.+work_out.Goals as goal
+
+pub work_out-returns-in_ok-work_out-in-ClaimsOnly : goal.work_out-returns-in_ok-work_out-in-ClaimsOnly
+work_out-returns-in_ok-work_out-in-ClaimsOnly t c =
+    let worked = c.in_ok-work_out-in-ClaimsOnly.ensures in
+    rw c.in-ClaimsOnly.is
+    (claims_only_gives c.args.at.now.program.now (scene_at c.args.at.now) c.in-ClaimsOnly.c c.deref-in-ClaimsOnly.result.now c.in_ok-work_out-in-ClaimsOnly.field-0 c.claims_only.result c.deref-in-ClaimsOnly.ensures worked.0 worked.1
+    c.in-ClaimsOnly.field-0 c.in-ClaimsOnly.objects c.deref-in-ClaimsOnly-2.result.now c.listed.result.now c.deref-in-ClaimsOnly-2.ensures.value c.listed.ensures c.claims_only.ensures)
 
 pub work_out-returns-in_ok-work_out-in-Claims : goal.work_out-returns-in_ok-work_out-in-Claims
 work_out-returns-in_ok-work_out-in-Claims t c =

@@ -1,0 +1,11 @@
+pub mod Lists
+pub mod Typed
+pub mod Types
+pub mod Passing
+pub mod Supplies
+pub mod Blocks
+pub mod Claims
+pub mod Worker
+pub mod Making
+pub mod Main
+pub mod Safe

@@ -1,0 +1,2 @@
+pub mod SafeByLabels
+pub mod Shared

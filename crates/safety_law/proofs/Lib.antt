@@ -1,0 +1,14 @@
+pub mod Respect
+pub mod Faults
+pub mod Yields
+pub mod Sizes
+pub mod Exprs
+pub mod Simples
+pub mod Tallies
+pub mod Actions
+pub mod Bodies
+pub mod Sites
+pub mod Suffice
+pub mod Needed
+pub mod Stability
+pub mod Single
