@@ -5,14 +5,14 @@ use Rattle.object_types.specs.declared.values.Value.TheVariants.{Int, Ref as Ref
 use Rattle.method.specs.declared.program.StructInfo.{StructInfo}
 use Rattle.method.specs.declared.program.Program.{Program}
 use Rattle.method.specs.declared.program.Spec.{Spec, Row_of-Spec, end_of-Spec, more_of-Spec}
-use Rattle.method.specs.declared.program.Spec.TheVariants.{Number, Truth, Null, Variable, Bound, This, Me, Result, Field', Closed', Owner', ClaimCount', Member', Not', Negate', Arithmetic', Compare', And', Or', Implies', Iff', Choose', Old', Unchanged', Wrapped', Wrapped0', Mutable', Fresh', ClaimsObject', Claims', Lists', Has, ForAll', Exists'}
+use Rattle.method.specs.declared.program.Spec.TheVariants.{Number, Truth, Null, Variable, Bound, This, Me, Result, Field', Closed', Owner', ClaimCount', Member', Not', Negate', Arithmetic', Compare', And', Or', Implies', Iff', Choose', Old', Unchanged', Wrapped', Wrapped0', Mutable', Fresh', ClaimsObject', ClaimsOnly', Claims', Lists', Has, ForAll', Exists'}
 use Rattle.object_types.specs.Values.{same_value, int, referent, truth, says, or_zero}
 use Rattle.object_types.specs.Sets.{some, every, is_in}
 use Rattle.object_types.specs.Shapes.{has_entry}
 use Rattle.object_types.specs.Content.{SameContent}
 use Rattle.object_types.specs.Heap.{Heap, closed_in}
 use Rattle.method.specs.Tables.{in_type, zero_of, type_of_field, struct_of}
-use Rattle.method.specs.SpecValue.{Scene, compute, compare, value, holds, all_hold, bind_ref, about, old_scene, entry_of}
+use Rattle.method.specs.SpecValue.{is_exactly, referents, Scene, compute, compare, value, holds, all_hold, bind_ref, about, old_scene, entry_of}
 use Rattle.method.specs.Invariants.{inv_holds, struct_holds, inv_scene, claim_holds}
 use Rattle.method.specs.Typing.{is_this, of_content, row_of_content}
 use Rattle.method.proofs.Global.{and_both}
@@ -73,6 +73,10 @@ module _ (p : Program) (h k : Heap) (same : (q : Ref) → SameContent (k.get q) 
         let d = and_both (of_content x) (of_content o) c in
         (λ i. says (is_in (referent (same_spec o d.1 s i)) (k.get (referent (same_spec x d.0 s i))).listed))
         ∙ ap (λ l. says (is_in (referent (value p o (at_heap s h))) l)) (same (referent (value p x (at_heap s h)))).listed
+    same_spec (ClaimsOnly' n q x m row) c s =
+        let d = and_both (of_content x) (row_of_content row) c in
+        (λ i. says (is_exactly (k.get (referent (same_spec x d.0 s i))).listed (same_referents row d.1 s i)))
+        ∙ ap (λ l. says (is_exactly l (referents p row (at_heap s h)))) (same (referent (value p x (at_heap s h)))).listed
     same_spec (Claims' q x m row) c s =
         let d = and_both (of_content x) (row_of_content row) c in
         (λ i. says (all_hold p row (about (referent (same_spec x d.0 s i)) (at_heap s k))))
@@ -93,6 +97,10 @@ module _ (p : Program) (h k : Heap) (same : (q : Ref) → SameContent (k.get q) 
     same_row : {m : _} (row : Row_of-Spec m) → row_of_content row ≡ true → (s : Scene) → all_hold p row (at_heap s k) ≡ all_hold p row (at_heap s h)
     same_row end_of-Spec c s = refl
     same_row (more_of-Spec e row) c s = let d = and_both (of_content e) (row_of_content row) c in λ i. truth (same_spec e d.0 s i) && same_row row d.1 s i
+
+    same_referents : {m : _} (row : Row_of-Spec m) → row_of_content row ≡ true → (s : Scene) → referents p row (at_heap s k) ≡ referents p row (at_heap s h)
+    same_referents end_of-Spec c s = refl
+    same_referents (more_of-Spec e row) c s = let d = and_both (of_content e) (row_of_content row) c in λ i. referent (same_spec e d.0 s i) ∷ same_referents row d.1 s i
 
   same_all : (es : List Spec) → every of_content es ≡ true → (s : Scene) → every (λ e. holds p e (at_heap s k)) es ≡ every (λ e. holds p e (at_heap s h)) es
   same_all [] c s = refl

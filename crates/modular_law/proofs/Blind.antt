@@ -9,7 +9,7 @@ use Rattle.method.specs.declared.program.CheckKind.TheVariants.{Range, LoopInv, 
 use Rattle.method.specs.declared.program.Expr.{Expr}
 use Rattle.method.specs.declared.program.Expr.TheVariants.{Number, Null, Variable, Field', Not', Negate', Arithmetic', Compare', And', Or', Choose', Convert'}
 use Rattle.method.specs.declared.program.Spec.{Spec}
-use Rattle.method.specs.declared.program.Spec.TheVariants.{Number as Number', Truth, Null as Null', Variable as Variable', Bound, This, Me, Result, Field' as Field'', Closed', Owner', ClaimCount', Member', Not' as Not'', Negate' as Negate'', Arithmetic' as Arithmetic'', Compare' as Compare'', And' as And'', Or' as Or'', Implies', Iff', Choose' as Choose'', Old', Unchanged', Wrapped', Wrapped0', Mutable', Fresh', ClaimsObject', Claims', Lists', Has, ForAll', Exists'}
+use Rattle.method.specs.declared.program.Spec.TheVariants.{Number as Number', Truth, Null as Null', Variable as Variable', Bound, This, Me, Result, Field' as Field'', Closed', Owner', ClaimCount', Member', Not' as Not'', Negate' as Negate'', Arithmetic' as Arithmetic'', Compare' as Compare'', And' as And'', Or' as Or'', Implies', Iff', Choose' as Choose'', Old', Unchanged', Wrapped', Wrapped0', Mutable', Fresh', ClaimsObject', ClaimsOnly', Claims', Lists', Has, ForAll', Exists'}
 use Rattle.method.specs.declared.program.Target.TheVariants.{Local, FieldOf}
 use Rattle.method.specs.declared.program.RightSide.TheVariants.{Compute, Malloc, NewClaim, Interlocked}
 use Rattle.method.specs.declared.program.Simple.TheVariants.{Assign, ChangeOwned, EndClaim}
@@ -97,6 +97,7 @@ module _ (p : Program) where
   value_blind (Mutable' q e) r s a b = absurd (both_ways true r refl)
   value_blind (Fresh' q e) r s a b = absurd (both_ways true r refl)
   value_blind (ClaimsObject' q e t u) r s a b = absurd (both_ways true r refl)
+  value_blind (ClaimsOnly' n q e m row) r s a b = absurd (both_ways true r refl)
   value_blind (Claims' q e m row) r s a b = absurd (both_ways true r refl)
   value_blind (Lists' q e) r s a b = absurd (both_ways true r refl)
   value_blind (Has c) r s a b = absurd (both_ways true r refl)
