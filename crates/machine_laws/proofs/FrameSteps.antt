@@ -13,7 +13,7 @@ use Rattle.machine_laws.proofs.Typed.{not_both, or_cases}
 use Rattle.machine_laws.proofs.Heaps.{false_from_ne_true, not-true, same_ref_from, mutable_parts, wrapped_parts}
 
 -- a set of fewer roots is a smaller set
-fewer : (p : Program) (h : Heap) (R S : Ref → Type 0) → ((o : Ref) → R o → S o) → (o : Ref) → StableFrom p h R o → StableFrom p h S o
+pub fewer : (p : Program) (h : Heap) (R S : Ref → Type 0) → ((o : Ref) → R o → S o) → (o : Ref) → StableFrom p h R o → StableFrom p h S o
 fewer p h R S f o (root r) = root (f o r)
 fewer p h R S f o (claimed {c} s e) = claimed (fewer p h R S f c s) e
 fewer p h R S f o (member {c} s v i) = member (fewer p h R S f c s) v i

@@ -132,7 +132,7 @@ zeros_typed : (vs : List VariableInfo) → all_typed vs (zeros_of vs) ≡ true
 zeros_typed [] = refl
 zeros_typed (v ∷ vs) = both_and (in_type v.ty (zero_of v.ty)) (all_typed vs (zeros_of vs)) (zero_in_type v.ty) (zeros_typed vs)
 
-args_typed : (vs : List VariableInfo) (args : List Value) → in_types vs args ≡ true → all_typed vs (args ++ zeros_of (drop (length args) vs)) ≡ true
+pub args_typed : (vs : List VariableInfo) (args : List Value) → in_types vs args ≡ true → all_typed vs (args ++ zeros_of (drop (length args) vs)) ≡ true
 args_typed vs [] e = zeros_typed vs
 args_typed [] (a ∷ args) e = absurd (cc)
 args_typed (v ∷ vs) (a ∷ args) e = by (in_type v.ty a) refl e (args_typed vs args)
@@ -144,7 +144,7 @@ args_typed (v ∷ vs) (a ∷ args) e = by (in_type v.ty a) refl e (args_typed vs
     by true i e more = both_and (in_type v.ty a) (all_typed vs (args ++ zeros_of (drop (length args) vs))) i (more e)
     by false i e more = absurd (cc)
 
-fit_parts : (f : FunctionInfo) (args : List Value) → fit_parameters f args ≡ true → (length args ≡ f.parameters) × (in_types f.variables.items args ≡ true)
+pub fit_parts : (f : FunctionInfo) (args : List Value) → fit_parameters f args ≡ true → (length args ≡ f.parameters) × (in_types f.variables.items args ≡ true)
 fit_parts f args e = by (length args == f.parameters) refl e
   where
     by : (b : Bool) → (length args == f.parameters) ≡ b → cond b (in_types f.variables.items args) false ≡ true → (length args ≡ f.parameters) × (in_types f.variables.items args ≡ true)

@@ -93,7 +93,7 @@ frame_by p x new h k before after legal apart th e w entry may =
 
 -- Threads' numbers.
 
-below_next : (n : ℕ) (ths : List Thread) → has_thread n ths ≡ true → n < next_number ths
+pub below_next : (n : ℕ) (ths : List Thread) → has_thread n ths ≡ true → n < next_number ths
 below_next n [] e = absurd (cc)
 below_next n (t ∷ ts) e = ⊎_elim
     (λ s. let k : t.number ≡ n = eqb-true t.number n s in omega (arith, k))

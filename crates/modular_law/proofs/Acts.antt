@@ -33,9 +33,10 @@ use Rattle.method.specs.Expressions.{End, Misfit, Failed, Gave, goes_on, scene, 
 use Rattle.method.specs.Actions.{Place, InLocal, InField, Chosen, Progress, Valued, Took, Tally, stored_heap, deferred_from, counts, claimed_checks, claim_tests, replaced, given, operands, operation_checks, conversion_checks, may_end, may_count, new_claim, right_checks, left_side, store, malloc, run_claimed, claim_made, make_claim, exchange, afterwards, right_side, member_change, members_change, owned_change, ended, end_claim, run_simple}
 use Rattle.method.specs.Text.{simple_sets}
 use Rattle.modular_law.proofs.Ends.{Alike}
-use Rattle.modular_law.proofs.Walks.{Sub, set_size, set_out, put_finite, hand_over_finite, count_more_finite, is_settled, Settled, put_settled, hand_over_settled, count_more_settled, Above, Ready, Went, went_still, went_on, went_heap}
+use Rattle.modular_law.proofs.Walks.{Sub, set_size, set_out, is_settled, Settled, put_settled, hand_over_settled, count_more_settled, Above, Ready, Went, went_still, went_on, went_heap}
 use Rattle.modular_law.proofs.Supplies.{Sim, lend, lend_valued, sim_gives, sim_unfit, sim_mono, sim_ends, sim_check, sim_each, sim_specs, sim_if, sim_value, sim_after, take_sim}
 use Rattle.modular_law.proofs.Numbers.{gives_same, then_alike, convert_alike, eval_alike, eval_all_alike}
+use Rattle.machine_laws.proofs.Heaps.{put_finite, hand_finite, count_finite}
 
 abbrev pub place_sets : Place → List ℕ
 place_sets (InLocal i) = i ∷ []
@@ -69,7 +70,7 @@ module _ (p : Program) (at_ : Spot) (set : List ℕ) where
   put_hand_goes : (g : Progress) (o : Ref) (new : Record) (members : List Ref) (owner : Ref) → Prepared g → (IsTrue (is_settled (g.heap.get o).mode) → IsTrue (is_settled new.mode)) →
       Sim lend (Goes g) (Gives (record g { heap = hand_over (put g.heap o new) members owner })) (λ news. Gives (record (lend news g) { heap = hand_over (put g.heap o new) members owner }))
   put_hand_goes g o new members owner r f =
-      heap_goes g (hand_over (put g.heap o new) members owner) r (hand_over_finite _ members owner (put_finite g.heap o new r.finite))
+      heap_goes g (hand_over (put g.heap o new) members owner) r (hand_finite _ members owner (put_finite g.heap o new r.finite))
       (λ q s. hand_over_settled _ members owner q (put_settled g.heap o new f q s))
 
   pub left_alike : (t : Target) (n m : ℕ) (g : Progress) (news : List Ref) → Alike (left_side p at_ t n g) (left_side p at_ t m (lend news g))
@@ -145,7 +146,7 @@ module _ (p : Program) (at_ : Spot) (set : List ℕ) where
       (take_sim lend_valued (GoesValued g) at_.context.me 2 g.heap (λ t. claim_made p at_ t.which t.supply objects es place (first + length objects + 1) tally (heap_with t) g)
       (λ t. claim_made p at_ t.which t.supply objects es place (other + length objects + 1) tally (heap_with t) g)
       (λ t taken. claim_made_sim t objects es place (first + length objects + 1) (other + length objects + 1) tally (heap_with t) g r
-      (count_more_finite (pos 1) objects _ (put_finite g.heap t.which _ r.finite))
+      (count_finite (pos 1) objects _ (put_finite g.heap t.which _ r.finite))
       (λ o s. count_more_settled (pos 1) objects _ o (put_settled g.heap t.which _ (λ x. refl) o s))
       taken.above) g.supply r.finite r.above))
 
@@ -220,7 +221,7 @@ module _ (p : Program) (at_ : Spot) (set : List ℕ) where
       (sim_each _ _ at_ (map (may_count at_ g.heap) objects) (n + 1) (m + 1) DestroyClaim _ _
       (sim_specs _ _ at_ (if at_.inside then [] else map (λ o. inv_test p o g.heap h1) objects) (n + 1 + length objects) (m + 1 + length objects) Invariant _ _
       (sim_gives lend (Goes g) k (λ news. lend news k) (λ rest. refl) (record {
-        ready = record { finite = count_more_finite (negsuc 0) objects _ (put_finite g.heap c _ r.finite); above = r.above };
+        ready = record { finite = count_finite (negsuc 0) objects _ (put_finite g.heap c _ r.finite); above = r.above };
         settled = λ o s. count_more_settled (negsuc 0) objects _ o (put_settled g.heap c _ (λ x. refl) o s);
         started = refl;
         size = refl;

@@ -23,10 +23,11 @@ use Rattle.method.specs.Actions.{InLocal, Supply, Chosen, Progress, Took, Tally,
 use Rattle.method.specs.Text.{inner_sets, inner_row_sets, inner_list_sets, action_sets}
 use Rattle.method.proofs.Global.{same_ref_is}
 use Rattle.modular_law.proofs.Ends.{Both, both_gives, both_check, both_checked, both_spec}
-use Rattle.modular_law.proofs.Walks.{Out, Sub, sub_left, sub_right, put_finite, hand_over_finite, is_settled, put_settled, hand_over_settled, Above, Ready, Went, went_still, went_on, went_heap}
+use Rattle.modular_law.proofs.Walks.{Out, Sub, sub_left, sub_right, is_settled, put_settled, hand_over_settled, Above, Ready, Went, went_still, went_on, went_heap}
 use Rattle.modular_law.proofs.Supplies.{Same, Sim, lend, sim_gives, sim_unfit, sim_mono, sim_check, sim_each, sim_spec, sim_specs, sim_fitting, sim_if, sim_value, sim_after, thread_sim}
 use Rattle.modular_law.proofs.Numbers.{eval_alike, eval_all_alike}
 use Rattle.modular_law.proofs.Acts.{Goes, Prepared, heap_goes, store_sim, assigned_sim, simple_sim}
+use Rattle.machine_laws.proofs.Heaps.{put_finite, hand_finite}
 
 module _ (p : Program) (x : Context) (listed : List Ref) (set : List ℕ) where
   abbrev InnerGoes : Progress → Progress → Type 0
@@ -164,7 +165,7 @@ module _ (p : Program) (at_ : Spot) (set : List ℕ) where
       (both_spec _ at_ (record { overflow = set_overflow p at_ ty g.heap o; holds = every (λ q. wrapped at_.context.me g.heap q && may_write at_ q) members }) (n + 2) (m + 2) Wrap _ _
       (both_spec _ at_ (inv_test p o g.heap h1) (n + 3) (m + 3) Invariant _ _
       (both_gives _ (record g { heap = h1 }) (record (lend rest g) { heap = h1 }) (
-        went_heap at_.context.me set g h1 r (hand_over_finite _ members o (put_finite g.heap o new r.finite))
+        went_heap at_.context.me set g h1 r (hand_finite _ members o (put_finite g.heap o new r.finite))
             (λ q s. hand_over_settled _ members o q (put_settled g.heap o new (λ y. refl) q s)),
         refl,
       )))))
@@ -188,7 +189,7 @@ module _ (p : Program) (at_ : Spot) (set : List ℕ) where
       (both_checked _ at_ (is_zero_int (g.heap.get o).count) (n + 2) (m + 2) Claimed _ _ (λ zero.
       both_gives _ (record g { heap = h1 }) (record (lend rest g) { heap = h1 }) (
         record {
-          ready = record { finite = hand_over_finite _ members at_.context.me (put_finite g.heap o new r.finite); above = r.above };
+          ready = record { finite = hand_finite _ members at_.context.me (put_finite g.heap o new r.finite); above = r.above };
           started = λ e. refl;
           unopened = λ q c z. ap is_open (handed_mode (put g.heap o new) members at_.context.me q) ∙ put_unopened g.heap o new q c
               (λ e. both_ways (is_zero_int (g.heap.get q).count) z (subst (λ (u : Ref). is_zero_int (g.heap.get u).count ≡ true) (sym e) zero));
@@ -209,7 +210,7 @@ module _ (p : Program) (at_ : Spot) (set : List ℕ) where
       let j : Progress = record g { heap = h1; supply = t.supply; started = g.started ++ (callee p k f t.which h1 args ∷ []) } in
       sim_specs _ _ at_ (clause_tests p f.requires_.items (call_scene t.which h1 args)) n m Spawn _ _
       (sim_gives lend (Acted at_.context.me set true g) j (λ news. lend news j) (λ rest. refl) (record {
-        ready = record { finite = hand_over_finite g.heap items t.which r.finite; above = above };
+        ready = record { finite = hand_finite g.heap items t.which r.finite; above = above };
         started = λ e. absurd (both_ways true e refl);
         unopened = λ q c z. ap is_open (handed_mode g.heap items t.which q) ∙ closed_unopened (g.heap.get q).mode c;
         size = refl;

@@ -24,7 +24,7 @@ use Rattle.method.specs.SafeRuns.{Passes, Goes, RunsStmt}
 use Rattle.method.specs.Typing.{receiver_ok, result_values, WellTyped, stmt_ok, call_ok as call_typed}
 use Rattle.method.proofs.Global.{and_both}
 use Rattle.modular_law.specs.Respect.{Unwritable}
-use Rattle.modular_law.proofs.Values.{typed_values}
+use Rattle.modular_law.proofs.Typing.{args_typed_at}
 use Rattle.modular_law.proofs.Numbers.{eval_all_alike}
 use Rattle.modular_law.proofs.Blocks.{closed_unopened}
 use Rattle.modular_law.proofs.Frames.{narrows}
@@ -142,6 +142,6 @@ module _ (p : Program) (wt : WellTyped p) (local : AllLocalOk p) (last : ℕ) {t
       (λ label. passes_after label (eval_all p at_ h a.locals es.items i).overflow (eval_all p at_ h a.locals es.items i).end _ _ (runs' label))
       (λ args args_gave runs''. call_turn_ok line c q ms num held ends (slice_get p.functions.items q) refl place
       (covered_sub (place_sets place) (receiver_sets to) ms (received_sets p wt here line to place place_gave) covered) args (i + all_checks es.items)
-      (λ g e. (typed_values p wt).args x.function f g here.is at_ h a.locals es.items 0 args here.good here.fits (subst (λ o. IsTrue (call_typed p f o es.items)) e typed_call.0) args_gave)
+      (λ g e. args_typed_at p wt x f here.is t here.me h here.good a.locals here.fits line [] g es.items 0 args (subst (λ o. IsTrue (call_typed p f o es.items)) e typed_call.0) args_gave)
       (λ g e. received_typed p wt here line to c q g e place place_gave (subst (λ o. receiver_ok p f to (result_values p f o c) ≡ true) e typed_call.1))
       (place_field p wt here line to place (result_values p f (slice_get p.functions.items q) c) typed_call.1 place_gave) runs''))

@@ -30,9 +30,6 @@ same_ends Misfit = tt
 same_ends (Failed n kind line) = (refl, refl)
 same_ends (Gave a) = refl
 
-pub alike_self : {A : Type 0} (o : Outcome A) → Alike o o
-alike_self o = record { ends = same_ends o.end }
-
 pub ends_mono : {A B : Type 0} (R S : A → B → Type 0) (e : End A) (d : End B) → ((a : A) (b : B) → R a b → S a b) → Ends R e d → Ends S e d
 ends_mono R S Misfit d f x = tt
 ends_mono R S (Failed n kind line) Misfit f x = x

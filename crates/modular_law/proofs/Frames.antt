@@ -13,11 +13,12 @@ use Rattle.object_types.specs.Heap.{Heap, Record, IsClosedIn, closed_in, is_open
 use Rattle.method.specs.SpecValue.{Scene, value}
 use Rattle.method.specs.WellFormed.{IsHeapOf}
 use Rattle.method.specs.Legal.{Good}
-use Rattle.method.specs.StableSet.{StableFrom, root, claimed, member, Spared, InFrameSet, InStableSet}
+use Rattle.method.specs.StableSet.{root, claimed, member, Spared, InFrameSet, InStableSet}
 use Rattle.method.specs.Rely.{Rely, Frame}
 use Rattle.method.specs.Expressions.{Tested, item_tests}
 use Rattle.method.specs.Actions.{items_of}
 use Rattle.method.proofs.Global.{and_both, both_and, same_ref_is}
+use Rattle.machine_laws.proofs.FrameSteps.{fewer}
 
 pub frame_rests : (p : Program) (t : Ref) (h e : Heap) (w : List Ref) → IsHeapOf p e → Good p h → Frame p t h h e w
 frame_rests p t h e w entry good = record {
@@ -29,11 +30,6 @@ frame_rests p t h e w entry good = record {
   stable = λ o s. (record { fields = λ f e. refl; owned = λ e. refl; listed = refl; shapes = refl }, s);
 }
 
-set_mono : (p : Program) (h : Heap) (R S : Ref → Type 0) → ((o : Ref) → R o → S o) → (o : Ref) → StableFrom p h R o → StableFrom p h S o
-set_mono p h R S f o (root r) = root (f o r)
-set_mono p h R S f o (claimed {c = c} s i) = claimed (set_mono p h R S f c s) i
-set_mono p h R S f o (member {c = c} s v i) = member (set_mono p h R S f c s) v i
-
 -- what is in the set is closed
 pub set_closed : (p : Program) (t : Ref) (h : Heap) → Good p h → (o : Ref) → InStableSet p t h o → IsClosedIn h o
 set_closed p t h good o (root r) = (and_both (closed_in h o) (same_ref (h.get o).owner t) r).0
@@ -42,7 +38,7 @@ set_closed p t h good o (member {c = c} s v i) = (good.well_formed.member c o (s
 
 module _ (p : Program) (t : Ref) (e : Heap) (w : List Ref) (h k : Heap) (r : Rely p t h k) where
   framed_stable : (o : Ref) → InFrameSet p t h e w o → InStableSet p t h o
-  framed_stable o s = set_mono p h (Spared t h e w) (λ q. IsTrue (wrapped t h q)) (λ q y. y.wrapped_now) o s
+  framed_stable o s = fewer p h (Spared t h e w) (λ q. IsTrue (wrapped t h q)) (λ q y. y.wrapped_now) o s
 
   framed_on : (o : Ref) → InFrameSet p t h e w o → InFrameSet p t k e w o
   framed_on o (root y) = root (record { wrapped_now = (r.own_closed o y.wrapped_now).0; not_written = y.not_written })

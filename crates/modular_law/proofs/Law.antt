@@ -1,8 +1,8 @@
 -- The induction over the events.
-use Rattle.std.proofs.Common.{◌≡◌, ◌≢◌, ℕ, ◌+◌, ◌<◌, max, Bool, true, false, cond, ◌||◌, ◌==◌, List, [], ◌∷◌, ◌++◌, refl, sym, ap, ◌∙◌, subst, IsTrue, ℤ, pos, arith, ◌⊎◌, inl, inr, eq-eqb, append-nil, append_assoc}
+use Rattle.std.proofs.Common.{◌≡◌, ◌≢◌, ℕ, ◌+◌, ◌<◌, Bool, true, false, cond, ◌||◌, ◌==◌, List, [], ◌∷◌, ◌++◌, refl, sym, ap, ◌∙◌, subst, IsTrue, ℤ, pos, arith, eq-eqb, append-nil, append_assoc}
 use Rattle.std.specs.Prelude.{◌<ℤ◌}
 use Rattle.std.proofs.lemmas.Int.{ints}
-use Rattle.std.proofs.lemmas.Bool.{both_ways, or_cases, eqb-true, eqb-false, or_left, or_right}
+use Rattle.std.proofs.lemmas.Bool.{eqb-true, eqb-false, or_left, or_right}
 use Rattle.object_types.specs.declared.references.Ref.{Ref}
 use Rattle.method.specs.declared.program.Program.{Program}
 use Rattle.object_types.specs.References.{thread}
@@ -18,13 +18,15 @@ use Rattle.method.specs.LocalRuns.{AllLocalOk}
 use Rattle.method.specs.Typing.{WellTyped}
 use Rattle.method.specs.MachineLaws.{Choice, run_with, has_thread}
 use Rattle.method.proofs.Global.{global_law, same_int_is}
-use Rattle.modular_law.proofs.Facts.{OnGave, turn_at, TopSpares, StepFacts}
+use Rattle.modular_law.proofs.Facts.{turn_at, TopSpares, StepFacts}
 use Rattle.modular_law.specs.Respect.{IsOlder, ActionsRespect, ActionsLaw, AnyActionsLaw}
 use Rattle.modular_law.proofs.Walks.{Above}
 use Rattle.modular_law.proofs.Threads.{ThreadOk, thread_yields}
 use Rattle.modular_law.proofs.GoodTurns.{AllStart, GoodEnd, GoodTurn, above_older}
 use Rattle.modular_law.proofs.Starts.{start_top}
 use Rattle.modular_law.proofs.Turns.{turn}
+use Rattle.machine_laws.specs.Outcomes.{OnEnd}
+use Rattle.machine_laws.proofs.Reliance.{below_next}
 
 abbrev AllOk : Program → Heap → List Thread → Type 0
 AllOk p h [] = Unit {0}
@@ -56,14 +58,6 @@ has_frames t (th ∷ ths) a below e = by_number (th.number == t) e (has_frames t
     by_number : (b : Bool) → cond b th.frames (frames_of t ths) ≡ a ∷ below → (frames_of t ths ≡ a ∷ below → has_thread t ths ≡ true) → b || has_thread t ths ≡ true
     by_number true d rest = refl
     by_number false d rest = rest d
-
-next_above : (t : ℕ) (ths : List Thread) → has_thread t ths ≡ true → t < next_number ths
-next_above t [] e = absurd (both_ways false refl e)
-next_above t (th ∷ ths) e = by_cases (or_cases (th.number == t) (has_thread t ths) e) (next_above t ths)
-  where
-    by_cases : ((th.number == t) ≡ true) ⊎ (has_thread t ths ≡ true) → (has_thread t ths ≡ true → t < next_number ths) → t < max (th.number + 1) (next_number ths)
-    by_cases (inl d) rest = let n : th.number ≡ t = eqb-true th.number t d in omega arith
-    by_cases (inr d) rest = let n : t < next_number ths = rest d in omega arith
 
 all_append : (p : Program) (h : Heap) (xs ys : List Thread) → AllOk p h xs → AllOk p h ys → AllOk p h (xs ++ ys)
 all_append p h [] ys a b = b
@@ -116,9 +110,9 @@ module _ (p : Program) (wt : WellTyped p) (adm : Admissible p) (local : AllLocal
         })
         e.choices o.marks o.fine o.held o.ends)
 
-    answer_end : (u : End Turn) → GoodEnd p supply e.thread s.heap u → OnGave u (λ turn. Legal p s.heap turn.heap) →
-        OnGave u (λ turn. Good p turn.heap → (t : ℕ) → t ≢ e.thread → IsTrue (has_thread t s.threads) → Rely p (thread t) s.heap turn.heap) →
-        OnGave u (λ turn. Good p turn.heap → TopSpares p e.thread s.heap turn.heap turn.frames) → AnswerOk p s (answer_of p s e.thread u)
+    answer_end : (u : End Turn) → GoodEnd p supply e.thread s.heap u → OnEnd u (λ turn. Legal p s.heap turn.heap) →
+        OnEnd u (λ turn. Good p turn.heap → (t : ℕ) → t ≢ e.thread → IsTrue (has_thread t s.threads) → Rely p (thread t) s.heap turn.heap) →
+        OnEnd u (λ turn. Good p turn.heap → TopSpares p e.thread s.heap turn.heap turn.frames) → AnswerOk p s (answer_of p s e.thread u)
     answer_end Misfit y legal relied framed = tt
     answer_end (Failed n kind line) y legal relied framed = y
     answer_end (Gave turn) y legal relied framed =
@@ -179,18 +173,18 @@ module _ (p : Program) (wt : WellTyped p) (adm : Admissible p) (local : AllLocal
 
 -- From the actions alone.
 
-legal_of : (p : Program) (supply : Supply) (t : ℕ) (h : Heap) (u : End Turn) → ActionsRespect p → GoodEnd p supply t h u → OnGave u (λ turn. Legal p h turn.heap)
+legal_of : (p : Program) (supply : Supply) (t : ℕ) (h : Heap) (u : End Turn) → ActionsRespect p → GoodEnd p supply t h u → OnEnd u (λ turn. Legal p h turn.heap)
 legal_of p supply t h Misfit acts y = tt
 legal_of p supply t h (Failed n kind line) acts y = tt
 legal_of p supply t h (Gave turn) acts y = (y.0 acts).legal
 
 relied_of : (p : Program) (supply : Supply) (t : ℕ) (h : Heap) (ths : List Thread) → ((u : ℕ) → has_thread u ths ≡ true → IsOlder supply u) → (u : End Turn) → ActionsRespect p →
-    GoodEnd p supply t h u → OnGave u (λ turn. Good p turn.heap → (v : ℕ) → v ≢ t → IsTrue (has_thread v ths) → Rely p (thread v) h turn.heap)
+    GoodEnd p supply t h u → OnEnd u (λ turn. Good p turn.heap → (v : ℕ) → v ≢ t → IsTrue (has_thread v ths) → Rely p (thread v) h turn.heap)
 relied_of p supply t h ths older Misfit acts y = tt
 relied_of p supply t h ths older (Failed n kind line) acts y = tt
 relied_of p supply t h ths older (Gave turn) acts y = λ good v ne has. (y.0 acts).relied good v ne (older v has)
 
-framed_of : (p : Program) (supply : Supply) (t : ℕ) (h : Heap) (u : End Turn) → ActionsRespect p → GoodEnd p supply t h u → OnGave u (λ turn. Good p turn.heap → TopSpares p t h turn.heap turn.frames)
+framed_of : (p : Program) (supply : Supply) (t : ℕ) (h : Heap) (u : End Turn) → ActionsRespect p → GoodEnd p supply t h u → OnEnd u (λ turn. Good p turn.heap → TopSpares p t h turn.heap turn.frames)
 framed_of p supply t h Misfit acts y = tt
 framed_of p supply t h (Failed n kind line) acts y = tt
 framed_of p supply t h (Gave turn) acts y = (y.0 acts).framed
@@ -209,12 +203,12 @@ module _ (p : Program) (wt : WellTyped p) (acts : ActionsRespect p) (adm : Admis
 pub actions_law : ActionsLaw
 unfolding step
 actions_law p wt acts adm local s start good events e =
-    all_fine p wt adm local (λ (e : Event). e) (λ e s. Fresh (next_number s.threads)) (run p) (λ s. refl) (λ x xs s. refl) (λ x s t has. next_above t s.threads has) s
+    all_fine p wt adm local (λ (e : Event). e) (λ e s. Fresh (next_number s.threads)) (run p) (λ s. refl) (λ x xs s. refl) (λ x s t has. below_next t s.threads has) s
     (start_ok p wt adm local s start good)
-    (λ done x ok. facts_of p wt acts adm local (Fresh (next_number (run p done s).threads)) (run p done s) x ok (λ t has. next_above t (run p done s).threads has)) events e
+    (λ done x ok. facts_of p wt acts adm local (Fresh (next_number (run p done s).threads)) (run p done s) x ok (λ t has. below_next t (run p done s).threads has)) events e
 
 pub any_actions_law : AnyActionsLaw
 any_actions_law p wt acts adm local s start good cs c =
-    all_fine p wt adm local (λ (c : Choice). c.event) (λ c s. Picked (next_number s.threads) c.news) (run_with p) (λ s. refl) (λ x xs s. refl) (λ x s t has. next_above t s.threads has) s
+    all_fine p wt adm local (λ (c : Choice). c.event) (λ c s. Picked (next_number s.threads) c.news) (run_with p) (λ s. refl) (λ x xs s. refl) (λ x s t has. below_next t s.threads has) s
     (start_ok p wt adm local s start good)
-    (λ done x ok. facts_of p wt acts adm local (Picked (next_number (run_with p done s).threads) x.news) (run_with p done s) x.event ok (λ t has. next_above t (run_with p done s).threads has)) cs c
+    (λ done x ok. facts_of p wt acts adm local (Picked (next_number (run_with p done s).threads) x.news) (run_with p done s) x.event ok (λ t has. below_next t (run_with p done s).threads has)) cs c

@@ -9,11 +9,7 @@ pub mod Blind
 pub mod Frames
 pub mod Marks
 pub mod Declared
-pub mod Orders
-pub mod Values
-pub mod Stores
-pub mod Sounds
-pub mod Whole
+pub mod Typing
 pub mod Threads
 pub mod GoodTurns
 pub mod Starts

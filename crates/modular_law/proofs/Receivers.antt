@@ -7,7 +7,6 @@ use Rattle.method.specs.declared.program.DeclaredType.{DeclaredType}
 use Rattle.method.specs.Tables.{in_type, is_field_of, belongs}
 use Rattle.object_types.specs.References.{is_null}
 use Rattle.method.specs.declared.program.FieldInfo.{FieldInfo}
-use Rattle.method.specs.declared.program.DeclaredType.TheVariants.{Integer, Pointer, Object, Claim}
 use Rattle.std.proofs.lemmas.Bool.{eqb-true}
 use Rattle.method.specs.declared.program.Expr.{Expr}
 use Rattle.method.specs.declared.program.Target.TheVariants.{Local, FieldOf}
@@ -15,7 +14,6 @@ use Rattle.method.specs.declared.program.Receiver.{Receiver}
 use Rattle.method.specs.declared.program.Receiver.TheVariants.{Nobody, NewVariable, Place as Left}
 use Rattle.method.specs.declared.program.FunctionInfo.{FunctionInfo}
 use Rattle.method.specs.declared.program.Program.{Program}
-use Rattle.object_types.specs.References.{same_ref}
 use Rattle.object_types.specs.Values.{referent}
 use Rattle.object_types.specs.Heap.{Heap}
 use Rattle.method.specs.Expressions.{End, Misfit, Failed, Gave, goes_on, Gives, after, Context, eval}
@@ -23,11 +21,8 @@ use Rattle.method.specs.Actions.{Place, InLocal, InField, Supply, Chosen, spot, 
 use Rattle.method.specs.Machine.{Activation, received}
 use Rattle.method.specs.Text.{receiver_sets}
 use Rattle.method.specs.LocalRuns.{of_type}
-use Rattle.method.specs.Typing.{is_type, Values, Ints, Nulls, Refs, test, values, point_to, field_takes, fits as fits_type, all_of, declared, and_then, converted_values, convertible, are_ints, only_if, receiver_ok, result_values, WellTyped, is_pointer}
+use Rattle.method.specs.Typing.{is_type, Values, test, values, point_to, field_takes, fits as fits_type, declared, and_then, converted_values, convertible, only_if, receiver_ok, result_values, WellTyped, is_pointer}
 use Rattle.method.proofs.Global.{and_both}
-use Rattle.modular_law.proofs.Values.{eval_typed, on_gave, good_values, IsOf, of_declared, read_typed, good_declared}
-use Rattle.modular_law.proofs.Sounds.{convert_sound, variable_typed, field_typed}
-use Rattle.modular_law.proofs.Whole.{takes_none}
 use Rattle.modular_law.proofs.Ends.{Alike}
 use Rattle.modular_law.proofs.Walks.{Sub}
 use Rattle.modular_law.proofs.Numbers.{gives_same, then_alike}
@@ -35,6 +30,8 @@ use Rattle.modular_law.proofs.Acts.{left_alike}
 use Rattle.modular_law.proofs.Threads.{FieldPlace, StoreTyped, place_sets}
 use Rattle.modular_law.proofs.GoodTurns.{Running}
 use Rattle.modular_law.proofs.Results.{gave_is}
+use Rattle.machine_laws.proofs.Typed.{is_of, of_declared}
+use Rattle.modular_law.proofs.Typing.{variable_typed, field_typed, struct_or_null, value_typed, converted_typed, takes_none}
 
 module _ (p : Program) (wt : WellTyped p) {t : ℕ} {h : Heap} {a : Activation} {f : FunctionInfo} {below : List Activation} {supply : Supply} (here : Running p t h a f below supply) where
   abbrev x : Context
@@ -57,40 +54,21 @@ module _ (p : Program) (wt : WellTyped p) {t : ℕ} {h : Heap} {a : Activation} 
       by_end w (Failed n kind at_line) z = absurd (cc)
       by_end w (Gave v) z = subst (λ (o : Option Place). Sub (place_sets o) []) (gave_is (Some (InField (referent v) q)) place z) (λ i o. o)
 
-  abbrev int_result : Option DeclaredType → Bool
-  int_result None = true
-  int_result (Some ty) = are_ints (declared ty)
-
-  abbrev conversion_ints : Option CType → Option DeclaredType → Bool
-  conversion_ints None r = true
-  conversion_ints (Some ct) r = int_result r
-
   -- what comes back is of the type of where it goes
   place_typed : (line : ℕ) (to : Receiver) (place : Option Place) → (received p to (spot x [] line) 0 (starting h a.locals supply)).end ≡ Gave place → (vs : Values) (w : Value) →
-      receiver_ok p f to (Some vs) ≡ true → good_values p vs ≡ true → IsOf vs w → StoreTyped p f place w
-  place_typed line Nobody place e vs w ok good' is' = subst (λ (o : Option Place). StoreTyped p f o w) (gave_is None place e) tt
-  place_typed line (NewVariable i) place e vs w ok good' is' = subst (λ (o : Option Place). StoreTyped p f o w) (gave_is (Some (InLocal i)) place e)
-      (variable_typed p wt x.function f here.is (spot x [] line) i vs w ok good' is')
-  place_typed line (Left (Local i)) place e vs w ok good' is' = subst (λ (o : Option Place). StoreTyped p f o w) (gave_is (Some (InLocal i)) place e)
-      (variable_typed p wt x.function f here.is (spot x [] line) i vs w ok good' is')
-  place_typed line (Left (FieldOf e q)) place d vs w ok good' is' = by_end (eval p (spot x [] line) h a.locals e 0).overflow (eval p (spot x [] line) h a.locals e 0).end d
+      receiver_ok p f to (Some vs) ≡ true → is_of p vs w ≡ true → StoreTyped p f place w
+  place_typed line Nobody place e vs w ok is' = subst (λ (o : Option Place). StoreTyped p f o w) (gave_is None place e) tt
+  place_typed line (NewVariable i) place e vs w ok is' = subst (λ (o : Option Place). StoreTyped p f o w) (gave_is (Some (InLocal i)) place e)
+      (variable_typed p f i vs w ok is')
+  place_typed line (Left (Local i)) place e vs w ok is' = subst (λ (o : Option Place). StoreTyped p f o w) (gave_is (Some (InLocal i)) place e)
+      (variable_typed p f i vs w ok is')
+  place_typed line (Left (FieldOf e q)) place d vs w ok is' = by_end (eval p (spot x [] line) h a.locals e 0).overflow (eval p (spot x [] line) h a.locals e 0).end d
     where
       by_end : (o : _) (u : End Value) → (after {A = Place} (goes_on o u (λ v. Gives (InField (referent v) q))) (λ o. Gives (Some o))).end ≡ Gave place → StoreTyped p f place w
       by_end o Misfit z = absurd (cc)
       by_end o (Failed n kind at_line) z = absurd (cc)
       by_end o (Gave v) z = subst (λ (o : Option Place). StoreTyped p f o w) (gave_is (Some (InField (referent v) q)) place z)
-          (field_typed p wt x.function f here.is (spot x [] line) e q (referent v) vs w ok good' is')
-
-  -- a pointer to a struct is NULL or one
-  of_struct : (vs : Values) (ty : ℕ) (v : Value) → point_to (λ n. n == ty) vs ≡ true → IsOf vs v → is_null (referent v) || ((referent v).ty == ty) ≡ true
-  unfolding in_type same_ref
-  of_struct (Ints low high) ty v e y = absurd (both_ways false refl e)
-  of_struct Nulls ty v e y = subst (λ u. is_null (referent u) || ((referent u).ty == ty) ≡ true) (sym y) refl
-  of_struct (Refs (Integer c)) ty v e y = absurd (both_ways false refl e)
-  of_struct (Refs (Pointer n)) ty v e y = subst (λ u. is_null (referent u) || ((referent u).ty == ty) ≡ true) (sym y.1)
-      (subst (λ m. is_null y.0 || (y.0.ty == m) ≡ true) (eqb-true n ty e) (subst (λ u. in_type (Pointer n) u ≡ true) y.1 y.2))
-  of_struct (Refs Object) ty v e y = absurd (both_ways false refl e)
-  of_struct (Refs Claim) ty v e y = absurd (both_ways false refl e)
+          (field_typed p f e q (referent v) vs w ok is')
 
   pub points_to : (line : ℕ) (e : Expr) (ty : ℕ) (v : Value) → is_pointer p f (λ n. n == ty) e ≡ true → (eval p (spot x [] line) h a.locals e 0).end ≡ Gave v →
       is_null (referent v) || ((referent v).ty == ty) ≡ true
@@ -98,8 +76,7 @@ module _ (p : Program) (wt : WellTyped p) {t : ℕ} {h : Heap} {a : Activation} 
     where
       by_values : (o : Option Values) → values p f e ≡ o → test p f o (point_to (λ n. n == ty)) ≡ true → is_null (referent v) || ((referent v).ty == ty) ≡ true
       by_values None d z = absurd (both_ways false refl z)
-      by_values (Some vs) d z = of_struct vs ty v z (on_gave (eval p (spot x [] line) h a.locals e 0).end (λ u. IsOf vs u) v
-          (eval_typed p wt x.function f here.is (spot x [] line) h a.locals (read_typed p h here.good) here.fits e 0 vs d).on gave)
+      by_values (Some vs) d z = struct_or_null p vs ty v z (value_typed p wt x f here.is t here.me h here.good a.locals here.fits line e vs 0 v d gave)
 
   -- the object of a left side is NULL or one of the field's type
   pub place_field : (line : ℕ) (to : Receiver) (place : Option Place) (o : Option Values) → receiver_ok p f to o ≡ true →
@@ -115,16 +92,15 @@ module _ (p : Program) (wt : WellTyped p) {t : ℕ} {h : Heap} {a : Activation} 
 
       by_values : (v : Value) → (eval p (spot x [] line) h a.locals e 0).end ≡ Gave v → (u : Option Values) → values p f e ≡ u →
           test p f u (λ w. field_takes p f (slice_get p.fields.items q) w o) ≡ true → is_null (referent v) || is_field_of p q (referent v).ty ≡ true
-      by_values v gave None z t = absurd (both_ways false refl t)
-      by_values v gave (Some vs) z t = by_field (slice_get p.fields.items q) refl t
+      by_values v gave None z tested = absurd (both_ways false refl tested)
+      by_values v gave (Some vs) z tested = by_field (slice_get p.fields.items q) refl tested
         where
           by_field : (i : Option FieldInfo) → slice_get p.fields.items q ≡ i → field_takes p f i vs o ≡ true → is_null (referent v) || belongs (slice_get p.fields.items q) (referent v).ty ≡ true
           by_field None y w = absurd (both_ways false refl w)
           by_field (Some i) y w =
               let points = (and_both (point_to (λ n. n == i.of) vs) (test p f o (λ w. fits_type w i.ty)) w).0 in
               subst (λ k. is_null (referent v) || belongs k (referent v).ty ≡ true) (sym y) (turned (is_null (referent v)) (referent v).ty i.of
-              (of_struct vs i.of v points (on_gave (eval p (spot x [] line) h a.locals e 0).end (λ u. IsOf vs u) v
-              (eval_typed p wt x.function f here.is (spot x [] line) h a.locals (read_typed p h here.good) here.fits e 0 vs z).on gave)))
+              (struct_or_null p vs i.of v points (value_typed p wt x f here.is t here.me h here.good a.locals here.fits line e vs 0 v z gave)))
 
       by_end : (w : _) (u : End Value) → (eval p (spot x [] line) h a.locals e 0).end ≡ u →
           (after {A = Place} (goes_on w u (λ v. Gives (InField (referent v) q))) (λ o. Gives (Some o))).end ≡ Gave place → FieldPlace p place
@@ -135,34 +111,23 @@ module _ (p : Program) (wt : WellTyped p) {t : ℕ} {h : Heap} {a : Activation} 
   none_taken : (line : ℕ) (to : Receiver) (place : Option Place) (w : Value) → (received p to (spot x [] line) 0 (starting h a.locals supply)).end ≡ Gave place →
       receiver_ok p f to None ≡ true → StoreTyped p f place w
   none_taken line Nobody place w e ok = subst (λ (o : Option Place). StoreTyped p f o w) (gave_is None place e) tt
-  none_taken line (NewVariable i) place w e ok = absurd (takes_none p wt x.function f here.is (Local i) ok)
-  none_taken line (Left u) place w e ok = absurd (takes_none p wt x.function f here.is u ok)
+  none_taken line (NewVariable i) place w e ok = absurd (takes_none p wt x f here.is t here.me h here.good a.locals here.fits line (Local i) ok)
+  none_taken line (Left u) place w e ok = absurd (takes_none p wt x f here.is t here.me h here.good a.locals here.fits line u ok)
 
-  came_back : (line : ℕ) (c : Option CType) (ty : DeclaredType) (v w : Value) → (r : Option DeclaredType) → r ≡ Some ty → conversion_ints c r ≡ true → in_type ty v ≡ true →
-      (convert_to (spot x [] line) c v 0).end ≡ Gave w → IsOf (converted_values p f c (declared ty)) w
-  came_back line None ty v w r d care typed conv = subst (λ u. IsOf (declared ty) u) (gave_is v w conv) (of_declared ty v typed)
-  came_back line (Some ct) ty v w r d care typed conv =
-      on_gave (convert_to (spot x [] line) (Some ct) v 0).end (λ u. IsOf (all_of ct) u) w
-      (convert_sound p wt x.function f here.is (spot x [] line) (Some ct) (declared ty) v 0 (subst (λ o. int_result o ≡ true) d care) (of_declared ty v typed)).on conv
-
-  good_back : (c : Option CType) (ty : DeclaredType) → is_type p ty ≡ true → good_values p (converted_values p f c (declared ty)) ≡ true
-  good_back None ty e = good_declared p ty e
-  good_back (Some ct) ty e = refl
+  came_back : (line : ℕ) (c : Option CType) (ty : DeclaredType) (v w : Value) → is_type p ty ≡ true → convertible p f c (declared ty) ≡ true → in_type ty v ≡ true →
+      (convert_to (spot x [] line) c v 0).end ≡ Gave w → is_of p (converted_values p f c (declared ty)) w ≡ true
+  came_back line None ty v w is care typed conv = subst (λ u. is_of p (declared ty) u ≡ true) (gave_is v w conv) (of_declared p ty v is typed)
+  came_back line (Some ct) ty v w is care typed conv = converted_typed p wt x f here.is t here.me h here.good a.locals here.fits line ct (declared ty) v w care (of_declared p ty v is typed) conv
 
   pub received_typed : (line : ℕ) (to : Receiver) (c : Option CType) (q : ℕ) (g : FunctionInfo) → slice_get p.functions.items q ≡ Some g → (place : Option Place) →
       (received p to (spot x [] line) 0 (starting h a.locals supply)).end ≡ Gave place → receiver_ok p f to (result_values p f (Some g) c) ≡ true → (v w : Value) →
       IsTrue (of_type g.result v) → (convert_to (spot x [] line) c v 0).end ≡ Gave w → StoreTyped p f place w
   received_typed line to c q g g_is place gave ok v w range conv = by_result g.result refl ok range
     where
-      of_convertible : (c : Option CType) (ty : DeclaredType) → convertible p f c (declared ty) ≡ true → conversion_ints c (Some ty) ≡ true
-      of_convertible None ty e = refl
-      of_convertible (Some ct) ty e = e
-
       by_conversion : (ty : DeclaredType) → g.result ≡ Some ty → of_type (Some ty) v ≡ true → (b : Bool) → convertible p f c (declared ty) ≡ b →
           receiver_ok p f to (only_if b (converted_values p f c (declared ty))) ≡ true → StoreTyped p f place w
       by_conversion ty d range' false e ok' = none_taken line to place w gave ok'
-      by_conversion ty d range' true e ok' = place_typed line to place gave (converted_values p f c (declared ty)) w ok' (good_back c ty (wt.result_types q g ty g_is d))
-          (came_back line c ty v w (Some ty) refl (of_convertible c ty e) range' conv)
+      by_conversion ty d range' true e ok' = place_typed line to place gave (converted_values p f c (declared ty)) w ok' (came_back line c ty v w (wt.result_types q g ty g_is d) e range' conv)
 
       by_result : (r : Option DeclaredType) → g.result ≡ r →
           receiver_ok p f to (and_then r (λ ty. only_if (convertible p f c (declared ty)) (converted_values p f c (declared ty)))) ≡ true → of_type r v ≡ true → StoreTyped p f place w

@@ -20,8 +20,7 @@ use Rattle.method.specs.SafeRuns.{Passes, Goes}
 use Rattle.method.specs.Typing.{WellTyped}
 use Rattle.method.proofs.Global.{same_ref_is}
 use Rattle.modular_law.specs.Respect.{IsOlder, Respects, ActionsRespect}
-use Rattle.modular_law.proofs.Values.{on_gave, read_typed}
-use Rattle.modular_law.proofs.Sounds.{Sound, PlaceTyped, store_sound}
+use Rattle.modular_law.proofs.Typing.{PlaceTyped, store_fits}
 use Rattle.modular_law.proofs.Ends.{Both, both_gives, both_check}
 use Rattle.modular_law.proofs.Walks.{set_size, set_out}
 use Rattle.modular_law.proofs.Supplies.{lend}
@@ -111,8 +110,7 @@ module _ (p : Program) (wt : WellTyped p) (supply : Supply) (t : ℕ) (older : I
           ends = (
             λ acts. moves p supply t h g.heap (went b g.locals (map erase w.marks)) rest g.started line w.me (stored_passed place at_field acts u g (typed u gave) stored),
             λ known.
-                let sound : Sound p w.info g = on_gave (store p at_ place u 0 (starting h b.locals (Fresh 0))).end (λ g. Sound p w.info g) g
-                (store_sound p wt b.context.function w.info w.is at_ place u 0 (starting h b.locals (Fresh 0)) (typed u gave) (record { heap = read_typed p h good; locals = w.fits })).on stored in
+                let fits = store_fits p wt b.context w.info w.is t w.me h good b.locals w.fits (Fresh 0) w.line place u 0 g (typed u gave) stored in
                 record {
                   frames = (
                     record {
@@ -127,7 +125,7 @@ module _ (p : Program) (wt : WellTyped p) (supply : Supply) (t : ℕ) (older : I
                       held = held_on p b.context w.info w.marks (place_sets (Some place)) h g.heap b.locals g.locals
                           (spared_frame p t h g.heap b.context b.context w.me (λ q n. n) w.good.well_formed.heap_of known.spares) same.0.changed covered w.held;
                       ends = w.ends;
-                      fits = sound.locals;
+                      fits = fits;
                     },
                     below_on p t h g.heap b.context b.context rest (λ q n. n) known.spares waits,
                   );

@@ -18,7 +18,7 @@ use Rattle.method.specs.Actions.{Supply, take_thread, spawn, started, run_action
 use Rattle.method.specs.Machine.{Activation, begin, fit_parameters, requires_hold}
 use Rattle.method.specs.LocalRuns.{AllLocalOk}
 use Rattle.method.specs.Typing.{WellTyped, stmt_ok, call_ok as call_typed}
-use Rattle.modular_law.proofs.Values.{typed_values}
+use Rattle.modular_law.proofs.Typing.{args_typed_at}
 use Rattle.modular_law.proofs.Threads.{ThreadOk}
 use Rattle.modular_law.proofs.GoodTurns.{AllStart, every_clauses, Running}
 use Rattle.modular_law.proofs.Starts.{start_top}
@@ -62,7 +62,7 @@ module _ (p : Program) (wt : WellTyped p) (local : AllLocalOk p) (last : ℕ) {t
       by_function None d z = absurd (cc)
       by_function (Some i) d z =
           let ws = items_of p i.writes.items (call_scene x.me h b.value) in
-          let fit = (typed_values p wt).args x.function f i here.is at_ h a.locals es.items 0 b.value here.good here.fits (subst (λ o. IsTrue (call_typed p f o es.items)) d ok) b.gave in
+          let fit = args_typed_at p wt x f here.is t here.me h here.good a.locals here.fits line choices i es.items 0 b.value (subst (λ o. IsTrue (call_typed p f o es.items)) d ok) b.gave in
           let first = specs_gave at_ Spawn _ g (item_tests p (λ o. wrapped x.me h o && may_write at_ o) i.writes.items (call_scene x.me h b.value)) (0 + all_checks es.items) z in
           let took = after_gave (take_thread supply x.me h) (λ u. started p at_ k i b.value ws u.which u.supply (0 + all_checks es.items + length ws) (starting h a.locals supply)) g first.1 in
           let u = took.value.which in

@@ -14,7 +14,7 @@ use Rattle.method.specs.SafeRuns.{RunsBody}
 use Rattle.method.specs.Typing.{WellTyped}
 use Rattle.method.proofs.Runs.{same_runs}
 use Rattle.modular_law.proofs.Facts.{last_returns}
-use Rattle.modular_law.proofs.Stores.{begin_fits}
+use Rattle.modular_law.proofs.Typing.{begin_fits}
 use Rattle.modular_law.proofs.Frames.{frame_rests}
 use Rattle.modular_law.proofs.Marks.{all_gos, end_number, body_fine, erase_body}
 use Rattle.modular_law.proofs.Threads.{ends_all, body_held, TopOk}
@@ -39,7 +39,7 @@ module _ (p : Program) (wt : WellTyped p) (local : AllLocalOk p) (k : ℕ) (g : 
     fine = λ label. body_fine p y g label g.body.items 1 h (begin_with (Some g) y).locals (begins label);
     held = body_held p y g g.body.items 1 h (begin_with (Some g) y).locals (wt.bodies k g is) (frame_rests p y.me h y.entry y.writes good.well_formed.heap_of good);
     ends = ends_all p g g.body.items 1 (last_returns p wt k g is);
-    fits = begin_fits g args (wt.parameters k g is) fit;
+    fits = begin_fits g args fit;
   }
 
   pub start_top : TopOk p t h (begin p y)

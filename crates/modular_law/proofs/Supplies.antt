@@ -50,11 +50,6 @@ module _ {A : Type 0} (ld : List Ref → A → A) (Ok : A → Type 0) where
   sim_check at_ b n m kind o f s = record { choice = λ rest. let i = s.choice rest in (i.0, both_check (Same ld Ok rest) at_ b n m kind o (f i.0) i.1) }
 
   -- behind a check that passes
-  pub sim_checked : (at_ : Spot) (b : Bool) (n m : ℕ) (kind : CheckKind) (o : Outcome A) (f : List Ref → Outcome A) → (b ≡ true → Sim ld Ok o f) →
-      Sim ld Ok (check at_ b n kind o) (λ news. check at_ b m kind (f news))
-  sim_checked at_ true n m kind o f s = s refl
-  sim_checked at_ false n m kind o f s = record { choice = λ rest. (rest, record { ends = (refl, refl) }) }
-
   pub sim_each : (at_ : Spot) (bs : List Bool) (n m : ℕ) (kind : CheckKind) (o : Outcome A) (f : List Ref → Outcome A) → Sim ld Ok o f →
       Sim ld Ok (check_each at_ bs n kind o) (λ news. check_each at_ bs m kind (f news))
   sim_each at_ bs n m kind o f s = record { choice = λ rest. let i = s.choice rest in (i.0, both_each (Same ld Ok rest) at_ bs n m kind o (f i.0) i.1) }
@@ -273,9 +268,6 @@ pub record TakenThread (me : Ref) (h : Heap) (t : Took) : Type 0 where
 
 module _ {B : Type 0} (ld : List Ref → B → B) (Ok : B → Type 0) (me : Ref) (h : Heap) (k k' : Took → Outcome B)
     (next : (t : Took) → TakenThread me h t → Sim ld Ok (k t) (λ news. k' (with_rest t news))) where
-  thread_test : Ref → Bool
-  thread_test r = is_thread r && (not (same_ref r me) && is_idle h r.serial)
-
   choose_thread : (b : Bool) (t : Took) → b ≡ true → (rest : List Ref) → TakenThread me h t → Choice ld Ok (k t) (λ news. after (cond b (Gives (with_rest t news)) Unfit) k') rest
   choose_thread b t e rest taken =
       let i = (next t taken).choice rest in

@@ -27,7 +27,7 @@ use Rattle.method.proofs.Relies.{frame_composes}
 use Rattle.method.proofs.Global.{and_both}
 use Rattle.modular_law.proofs.Walks.{Out, Sub, sub_left, sub_right}
 use Rattle.modular_law.proofs.Frames.{rely_frame}
-use Rattle.modular_law.proofs.Sounds.{PlaceTyped}
+use Rattle.modular_law.proofs.Typing.{PlaceTyped}
 use Rattle.modular_law.proofs.Marks.{Mark, Go, Loop, Do_test, Do_again, Closing, erase, Fine, fine_closed, gos, all_gos}
 use Rattle.std.proofs.lemmas.Bool.{or_right}
 

@@ -31,9 +31,7 @@ use Rattle.method.proofs.Global.{and_both}
 use Rattle.modular_law.specs.Respect.{Respects, Actor, ActionsRespect}
 use Rattle.modular_law.specs.Respect.{Fits}
 use Rattle.modular_law.proofs.Facts.{has_no_value}
-use Rattle.modular_law.proofs.Values.{on_gave, typed_values, read_typed}
-use Rattle.modular_law.proofs.Sounds.{Sound}
-use Rattle.modular_law.proofs.Whole.{act_sound, wrap_sound, unwrap_sound}
+use Rattle.modular_law.proofs.Typing.{act_fits, wrap_fits, unwrap_fits, result_typed}
 use Rattle.modular_law.proofs.Ends.{Both, Alike, ends_mono}
 use Rattle.modular_law.proofs.Walks.{sub_left, sub_right, Ready, Went}
 use Rattle.modular_law.proofs.Supplies.{Same, lend}
@@ -235,8 +233,7 @@ module _ (p : Program) (wt : WellTyped p) (local : AllLocalOk p) (last : ℕ) {t
       let choice = (act_sim p x choices supply line b 0 n h a.locals here.good.well_formed.heap_of.finite here.above).choice [] in
       acted_turn line ms (map erase ms) (action_sets b) (spawns b) [] (act p x choices supply line b 0 h a.locals) (act p x choices (Chosen choice.0) line b n h a.locals) refl choice.1
       (λ label. fine label h (stay p here (action_reads b)) choices choice.0) held.1 held.2 ends (do_starts choices line b (action_sets b) held.0)
-      (λ g gave. (on_gave (act p x choices supply line b 0 h a.locals).end (λ g. Sound p f g) g
-      (act_sound p wt x.function f here.is x refl choices supply line b 0 h a.locals held.0 (read_typed p h here.good) here.fits).on gave).locals)
+      (λ g gave. act_fits p wt x f here.is t here.me h here.good a.locals here.fits choices supply line b 0 g held.0 gave)
       (λ acts g gave. acts.acts x f supply h a.locals acting choices line b 0 g held.0 gave)
 
   close_turn : (n line ty : ℕ) (o : Ref) (ms : List Mark) → FineAll (Closing n line ty o ∷ ms) → Held p x f (Closing n line ty o ∷ ms) h a.locals → ends_well f ms ≡ true →
@@ -250,8 +247,7 @@ module _ (p : Program) (wt : WellTyped p) (local : AllLocalOk p) (last : ℕ) {t
             (wrap_object p at_ ty o n (lend [] g)).end (λ k j y. (went_acted x.me [] false g k y.0, y.1)) (wrap_both p at_ [] ty o 0 n g ready []).ends;
       })
       (λ label. fine label h (stay p here true)) (covered_none ms) held.2 ends (λ k e acted good'. none_start [] k acted)
-      (λ k gave. (on_gave (wrap_object p at_ ty o 0 g).end (λ g. Sound p f g) k (wrap_sound p wt x.function f here.is at_ ty o 0 g
-      (record { heap = read_typed p h here.good; locals = here.fits })).on gave).locals)
+      (λ k gave. wrap_fits p wt x f here.is t here.me h here.good a.locals here.fits supply line ty o 0 k held.0 held.1 gave)
       (λ acts k gave. acts.wraps x f supply h a.locals acting line ty o 0 k held.0 held.1 gave)
 
   open_turn : (n line ty q : ℕ) (e : Expr) (m : Vec (Unit {0}) Global) (row : Rows m) (ms : List Mark) → FineAll (Go n (Unwrapping' line ty q e m row) ∷ ms) →
@@ -278,8 +274,7 @@ module _ (p : Program) (wt : WellTyped p) (local : AllLocalOk p) (last : ℕ) {t
       (λ k. row_fine p x f label row behind last (Closes p x f label line ty (referent v) wrap_number (Fine p x f label last ms)) (close ∷ ms) (λ j l y. y) k.heap k.locals) (runs label))
       (covered_none (gos p f row behind ++ close ∷ ms)) (row_held p x f row behind (close ∷ ms) h a.locals pointer.1 held.1
       (struct.0, points_to p wt here line e ty v pointer.0 gave, held.2)) (ends_gos p f row behind (close ∷ ms) ends) (λ k e acted good'. none_start [] k acted)
-      (λ k gave. (on_gave (unwrap_object p at_ (referent v) 0 g).end (λ g. Sound p f g) k
-      (unwrap_sound p wt x.function f here.is at_ (referent v) 0 g (record { heap = read_typed p h here.good; locals = here.fits })).on gave).locals)
+      (λ k opened. unwrap_fits p wt x f here.is t here.me h here.good a.locals here.fits supply line ty (referent v) 0 k struct.0 (points_to p wt here line e ty v pointer.0 gave) opened)
       (λ acts k opened. acts.unwraps x f supply h a.locals acting line ty (referent v) 0 k struct.0 (points_to p wt here line e ty v pointer.0 gave) opened))
 
   pub turn : (choices : List Value) (ms : List Mark) → FineAll ms → Held p x f ms h a.locals → ends_well f ms ≡ true → GoodTurn p supply t h (turn_of p supply choices a (map erase ms) below h)
@@ -317,7 +312,7 @@ module _ (p : Program) (wt : WellTyped p) (local : AllLocalOk p) (last : ℕ) {t
       (λ label. passes_after label (value_of p (spot x [] line) e h a.locals n).overflow (value_of p (spot x [] line) e h a.locals n).end _ _
       (fine label h (stay p here (option_reads e || clauses_read f.ensures_.items))))
       (λ v gave runs. returned_ok line v (n + option_checks e) runs (held_entry p x f ms h a.locals held.2)
-      ((typed_values p wt).result x.function f here.is (spot x [] line) h a.locals e 0 v here.good here.fits held.0 gave)))
+      (result_typed p wt x f here.is t here.me h here.good a.locals here.fits line e 0 v held.0 gave)))
   turn choices (Loop n line invs e m row began first ∷ ms) fine held ends =
       pass_fitting p supply t h (no_choices choices) _
       (invariants_turn line invs.items (n + length invs.items + checks e + row_checks p f row) (λ label. Unit {0}) _ (λ label. (fine label).0 h (stay p here (specs_read invs.items)))

@@ -53,30 +53,6 @@ set_out l i v j o = set_other l i v j (λ e. both_ways (i == j) (or_parts (i == 
 
 -- Heaps.
 
-in_front : (q : Ref) (a b : List Ref) → is_in q (a ++ b) ≡ false → (is_in q a ≡ false) × (is_in q b ≡ false)
-unfolding is_in
-in_front q [] b o = (refl, o)
-in_front q (r ∷ a) b o =
-    let x = or_parts (same_ref q r) (is_in q (a ++ b)) o in
-    let y = in_front q a b x.1 in
-    (or_from (same_ref q r) (is_in q a) x.0 y.0, y.1)
-
-pub put_finite : (h : Heap) (p : Ref) (new : Record) → IsFinite h → IsFinite (put h p new)
-unfolding put is_in
-put_finite h p new f o out =
-    let x = or_parts (same_ref o p) (is_in o h.support) out in
-    ap (λ (b : Bool). cond b new (h.get o)) x.0 ∙ f o x.1
-
-pub hand_over_finite : (h : Heap) (members : List Ref) (owner : Ref) → IsFinite h → IsFinite (hand_over h members owner)
-unfolding hand_over
-hand_over_finite h members owner f o out =
-    let x = in_front o members h.support out in
-    ap (λ (b : Bool). cond b (record (h.get o) { owner = owner }) (h.get o)) x.0 ∙ f o x.1
-
-pub count_more_finite : (z : ℤ) (os : List Ref) (h : Heap) → IsFinite h → IsFinite (count_more z os h)
-count_more_finite z [] h f = f
-count_more_finite z (o ∷ os) h f = count_more_finite z os _ (put_finite h o (record (h.get o) { count = (h.get o).count +ℤ z }) f)
-
 -- closed or freed: no action but an unwrap opens it, and no new reference takes its place
 abbrev pub is_settled : Mode → Bool
 is_settled Absent = false

@@ -1,5 +1,5 @@
 -- Each action that passes its checks respects everybody, so a well-typed program is safe where its types are admissible and its functions are locally safe.
-use Rattle.std.proofs.Common.{◌≡◌, ℕ, suc, ◌+◌, true, false, not, ◌&&◌, ◌||◌, ◌==◌, inr, ⊎_elim, refl, sym, ap, ◌∙◌, subst, List, [], ◌∷◌, length, Option, Some, None, slice_get, arith}
+use Rattle.std.proofs.Common.{◌≡◌, ℕ, ◌+◌, true, false, not, ◌&&◌, ◌||◌, ◌==◌, inr, ⊎_elim, refl, sym, ap, ◌∙◌, List, [], Option, Some, None, slice_get, arith}
 use Rattle.std.proofs.lemmas.Bool.{eqb-true, eq-eqb, false_from_ne_true}
 use Rattle.object_types.specs.declared.references.Ref.{Ref}
 use Rattle.object_types.specs.declared.values.Value.{Value}
@@ -7,52 +7,38 @@ use Rattle.method.specs.declared.program.CheckKind.TheVariants.{Write, Writes}
 use Rattle.object_types.specs.declared.records.Mode.TheVariants.{Absent}
 use Rattle.method.specs.declared.program.Action.{Action}
 use Rattle.method.specs.declared.program.FieldInfo.{FieldInfo}
-use Rattle.method.specs.declared.program.VariableInfo.{VariableInfo}
 use Rattle.method.specs.declared.program.FunctionInfo.{FunctionInfo}
 use Rattle.method.specs.declared.program.Program.{Program}
-use Rattle.object_types.specs.References.{thread, is_null, is_thread, is_claim}
+use Rattle.object_types.specs.References.{thread, is_null, is_thread}
 use Rattle.object_types.specs.Heap.{Heap, is_open, mutable, write}
-use Rattle.method.specs.Tables.{local, in_type, is_struct, is_field_of, type_of_field, field_type, belongs, is_volatile, is_approved}
+use Rattle.method.specs.Tables.{in_type, is_struct, is_field_of, type_of_field, field_type, belongs, is_volatile, is_approved}
 use Rattle.method.specs.MachineLaws.{ThreadModularLaw, AnyReferencesLaw}
 use Rattle.method.specs.Typing.{declared, action_ok, WellTyped}
-use Rattle.method.specs.Expressions.{End, Gave, Outcome, Gives, Context, check, may_write, is_listed}
+use Rattle.method.specs.Expressions.{Gave, Outcome, Gives, Context, check, may_write, is_listed}
 use Rattle.method.specs.Actions.{InField, Supply, Fresh, Chosen, Picked, Progress, Valued, spot, starting, act, heap_of, may_count, store, unwrap_object, wrap_object}
-use Rattle.method.proofs.Global.{both_and}
-use Rattle.machine_laws.proofs.Outcomes.{OnEnd, OnGave, check_gave, end_map}
-use Rattle.machine_laws.proofs.Typed.{or_cases, null_is, of_declared, all_typed, struct_type, Env}
+use Rattle.machine_laws.proofs.Outcomes.{OnGave, check_gave, end_map}
+use Rattle.machine_laws.proofs.Typed.{or_cases, null_is, of_declared, Env}
 use Rattle.machine_laws.proofs.Heaps.{mutable_parts}
 use Rattle.machine_laws.proofs.Steps.{noted, fine_same}
 use Rattle.machine_laws.proofs.Simple.{Done, assigned_gave, fits_self}
 use Rattle.machine_laws.proofs.Objects.{Acted, wrap_gave, unwrap_gave}
 use Rattle.machine_laws.proofs.Acts.{Event, FromSupply, among, act_gave, of_acted, of_done}
 use Rattle.machine_laws.proofs.Reliance.{rely_by, frame_by}
-use Rattle.modular_law.specs.Respect.{Fits, IsOlder, Respects, Actor, ActionsRespect}
+use Rattle.modular_law.specs.Respect.{IsOlder, Respects, Actor, ActionsRespect}
 use Rattle.modular_law.proofs.Law.{actions_law, any_actions_law}
-
-tail_fits : (f : FunctionInfo) (vs : List VariableInfo) (l : List Value) → length l ≡ length vs → ((i : ℕ) (v : VariableInfo) → slice_get vs i ≡ Some v → in_type v.ty (local l i) ≡ true) →
-    all_typed vs l ≡ true
-tail_fits f [] [] size each = refl
-tail_fits f [] (x ∷ l) size each = absurd (cc)
-tail_fits f (v ∷ vs) [] size each = absurd (cc)
-tail_fits f (v ∷ vs) (x ∷ l) size each = both_and (in_type v.ty x) (all_typed vs l) (each 0 v refl) (tail_fits f vs l (cc) (λ i w e. each (suc i) w e))
-
-all_fit : (f : FunctionInfo) (l : List Value) → Fits f l → all_typed f.variables.items l ≡ true
-all_fit f l z = tail_fits f f.variables.items l z.size z.each
+use Rattle.modular_law.proofs.Typing.{no_claim, fits_all, on_gave}
 
 not_new : (s : Supply) (u m : ℕ) → IsOlder s u → FromSupply s m → u ≡ m → ⊥
 not_new (Fresh n) u m older from e = absurd (omega (arith, older, from, e))
 not_new (Chosen rs) u m older from e = older
 not_new (Picked n rs) u m older from e = absurd (omega (arith, older, from, e))
 
-on_gave : (e : End Progress) (Q : Progress → Type 0) (g : Progress) → OnEnd e Q → e ≡ Gave g → Q g
-on_gave e Q g x is = subst (λ (y : End Progress). OnEnd y Q) is x
-
 module _ (p : Program) (typed : WellTyped p) (x : Context) (f : FunctionInfo) (supply : Supply) (h : Heap) (l : List Value) (acting : Actor p x f supply h l) where
   is_thread_me : is_thread x.me ≡ true
   is_thread_me = ap is_thread acting.me
 
   env : Env p f h l
-  env = record { heap = acting.good.well_formed; types = typed.variable_types x.function f acting.is; locals = all_fit f l acting.fits }
+  env = record { heap = acting.good.well_formed; types = typed.variable_types x.function f acting.is; locals = fits_all f l acting.fits }
 
   -- what an action does respects everybody
   respects_by : (from : Supply) (g : Progress) → Event p f x supply (starting h l from) g → Respects p x supply h g.heap
@@ -71,9 +57,6 @@ module _ (p : Program) (typed : WellTyped p) (x : Context) (f : FunctionInfo) (s
   acts choices line b n g ok e = respects_by supply g (on_gave (act p x choices supply line b n h l).end (Event p f x supply (starting h l supply)) g
       (act_gave p typed f x acting.is is_thread_me choices supply line b n h l env ok) e)
 
-  no_claim : (ty : ℕ) (o : Ref) → is_struct p ty ≡ true → is_null o || (o.ty == ty) ≡ true → is_claim o ≡ false
-  no_claim ty o s e = ⊎_elim (λ z. ap is_claim (null_is o z)) (λ z. ap (λ m. m == 2) (eqb-true o.ty ty z) ∙ (struct_type p ty s).2) (or_cases (is_null o) (o.ty == ty) e)
-
   acted_respects : (line : ℕ) (o : Outcome Progress) (g : Progress) → OnGave o (Acted p f x (starting h l supply)) → o.end ≡ Gave g → Respects p x supply h g.heap
   acted_respects line o g y e = respects_by supply g (of_acted p typed f x.function acting.is (spot x [] line) refl is_thread_me (starting h l supply) env (none_below supply) refl supply g
       (on_gave o.end (Acted p f x (starting h l supply)) g y e))
@@ -81,12 +64,12 @@ module _ (p : Program) (typed : WellTyped p) (x : Context) (f : FunctionInfo) (s
   pub unwraps : (line ty : ℕ) (o : Ref) (n : ℕ) (g : Progress) → is_struct p ty ≡ true → is_null o || (o.ty == ty) ≡ true →
       (unwrap_object p (spot x [] line) o n (starting h l supply)).end ≡ Gave g → Respects p x supply h g.heap
   unwraps line ty o n g s z e = acted_respects line (unwrap_object p (spot x [] line) o n (starting h l supply)) g
-      (unwrap_gave p typed f (spot x [] line) is_thread_me (starting h l supply) env o n (no_claim ty o s z)) e
+      (unwrap_gave p typed f (spot x [] line) is_thread_me (starting h l supply) env o n (no_claim p ty o s z)) e
 
   pub wraps : (line ty : ℕ) (o : Ref) (n : ℕ) (g : Progress) → is_struct p ty ≡ true → is_null o || (o.ty == ty) ≡ true →
       (wrap_object p (spot x [] line) ty o n (starting h l supply)).end ≡ Gave g → Respects p x supply h g.heap
   wraps line ty o n g s z e = acted_respects line (wrap_object p (spot x [] line) ty o n (starting h l supply)) g
-      (wrap_gave p typed f (spot x [] line) is_thread_me (starting h l supply) env ty o n (no_claim ty o s z)) e
+      (wrap_gave p typed f (spot x [] line) is_thread_me (starting h l supply) env ty o n (no_claim p ty o s z)) e
 
   -- NULL is never written
   null_store : (line : ℕ) (o : Ref) (q : ℕ) (v : Value) (n : ℕ) (Q : Progress → Type 0) → is_null o ≡ true → OnGave (store p (spot x [] line) (InField o q) v n (starting h l (Fresh 0))) Q
