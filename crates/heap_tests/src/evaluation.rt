@@ -219,6 +219,31 @@ const CLAIMS: &[(&str, Gives)] = &[
     ("all obj a claims k 1 has 2 q .", Int(0)),
 ];
 
+// The claim e claims nothing, and what is no claim has no claimed set.
+const CLAIMED_SETS: &[(&str, Gives)] = &[
+    ("claims_only k 2 b w", Int(1)),
+    ("claims_only k 1 b", Int(0)),
+    ("claims_only k 1 w", Int(0)),
+    ("claims_only k 0", Int(0)),
+    ("claims_only k 3 b w c", Int(0)),
+    ("claims_only k 2 b c", Int(0)),
+    ("claims_only k 3 b null w", Int(0)),
+    ("claims_only k 2 w b", Int(1)),
+    ("claims_only k 4 w b w b", Int(1)),
+    ("claims_only k 2 w w", Int(0)),
+    ("claims_only k 2 old p w", Int(1)),
+    ("claims_only e 0", Int(1)),
+    ("claims_only e 1 b", Int(0)),
+    ("claims_only a 0", Int(1)),
+    ("claims_only a 3 b c d", Int(0)),
+    ("claims_only null 0", Int(1)),
+    ("claims_only k 2 c + big 1", TooWide(BIG, 1)),
+    ("claims_only e 3 b - low 1 + big 1", TooWide(LOW, 1)),
+    ("claims_only + big 1 1 - low 1", TooWide(BIG, 1)),
+    ("old claims_only k 2 b w", Int(0)),
+    ("old claims_only k 0", Int(1)),
+];
+
 // Now a owns b, c and d, of the types 3, 4 and 4, with 10, -3 and the greatest number in n.
 const QUANTIFIERS: &[(&str, Gives)] = &[
     ("all 3 a == ->n q 10", Int(1)),
@@ -259,6 +284,7 @@ const TABLES: &[&[(&str, Gives)]] = &[
     HEAPS_AND_STATUSES,
     THE_EARLIER_HEAP,
     CLAIMS,
+    CLAIMED_SETS,
     QUANTIFIERS,
 ];
 

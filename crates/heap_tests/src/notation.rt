@@ -53,6 +53,7 @@ const VARIABLES: &[(&str, u32)] = &[
     ("w", 11),
     ("f", 12),
     ("g", 13),
+    ("e", 14),
     ("z", 99),
 ];
 
@@ -251,7 +252,14 @@ fn boxed(
     Ok(e)
 }
 
-/// `claims C N E..`, `all T X E`, `some T X N E..`, `has S HOLES .`
+fn of_claim(word: &str, claim: Box<Spec>, all: Vec<Spec>) -> Spec {
+    match word {
+        "claims" => Spec::Claims(claim, all),
+        _ => Spec::ClaimsOnly(0, claim, all),
+    }
+}
+
+/// `claims C N E..`, `claims_only C N E..`, `all T X E`, `some T X N E..`, `has S HOLES .`
 #[cycle(notation)]
 fn of_claims_or_members(
     alloc: Global,
@@ -260,10 +268,10 @@ fn of_claims_or_members(
     room: u32,
 ) -> Result<Spec, Unread> {
     match word {
-        "claims" => {
+        "claims" | "claims_only" => {
             let claim = boxed(alloc, words, room)?;
             let all = row(alloc, words, room)?;
-            Ok(Spec::Claims(claim, all))
+            Ok(of_claim(word, claim, all))
         }
         "all" => {
             let ty = ty(words)?;

@@ -31,6 +31,9 @@ const D: Ref = Ref { ty: 4, serial: 2 };
 /// A claim.
 const K: Ref = Ref { ty: 2, serial: 1 };
 
+/// A claim that claims nothing.
+const E: Ref = Ref { ty: 2, serial: 2 };
+
 /// Open and mine.
 const O: Ref = Ref { ty: 3, serial: 3 };
 
@@ -62,7 +65,7 @@ const BEFORE: &[Change<'static>] = &[
     Count(B, 1),
 ];
 
-/// The heap now. The claim claims B and W.
+/// The heap now. K claims B and W.
 const AFTER: &[Change<'static>] = &[
     Status(A, Closed, ME),
     Write(A, N, Int(5)),
@@ -74,6 +77,8 @@ const AFTER: &[Change<'static>] = &[
     Write(D, N, Int(i128::MAX)),
     Status(K, Closed, ME),
     Write(K, N, Int(0)),
+    Status(E, Closed, ME),
+    Write(E, N, Int(0)),
     Status(O, Open, ME),
     Write(O, N, Int(0)),
     Status(W, Closed, ME),
@@ -111,6 +116,7 @@ const LOCALS: &[Value] = &[
     Value::Ref(W),
     Value::Ref(F),
     Value::Ref(G),
+    Value::Ref(E),
 ];
 
 const ENTRY: &[Value] = &[Int(6), Value::Ref(B)];
