@@ -197,7 +197,7 @@ fn refused(refusal: Refusal<'_>) -> &'static str {
 
 /// A source has these conditions, or this refusal.
 fn gives(rt: &impl Abort, alloc: Global, source: &str, want: &str) {
-    is(rt, &(source.len() <= 1000), &true);
+    assert!(rt; source.len() <= 1000);
     match read_program(alloc, source.as_bytes()) {
         Ok(program) => {
             let got = shown(alloc, &program).expect(rt, "memory for conditions");
