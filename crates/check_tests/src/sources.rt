@@ -674,21 +674,6 @@ const DEEP: &[(Repeated<'static>, usize)] = &[
 /// Sources, each with the line that `check` prints of it, without its end.
 pub type Table = &'static [(&'static str, &'static str)];
 
-/// All tables of this file.
-const TABLES: &[Table] = &[
-    STRUCTS,
-    FUNCTIONS,
-    DECLARATIONS,
-    ASSIGNMENTS,
-    CALLS,
-    BRANCHES,
-    ANNOTATIONS,
-    GHOSTS,
-    EXPRESSIONS,
-    SPECS,
-    TOKENS,
-];
-
 /// The line and the status of a check of this source, with a certificate of no conditions.
 fn checked(alloc: Global, source: &str) -> Result<(String, u8), AllocError> {
     let mut words = Vec::new(alloc);
@@ -718,7 +703,7 @@ pub fn gives(rt: &impl Abort, alloc: Global, source: &str, line: &str, status: u
 }
 
 /// Each source of a table has its line behind this front, and status 3.
-fn hold(rt: &impl Abort, alloc: Global, front: &str, table: Table) {
+pub fn hold(rt: &impl Abort, alloc: Global, front: &str, table: Table) {
     for (source, line) in table {
         let text = repeated(alloc, &(front, source, "", "", ""), 1);
         let whole = text.expect(rt, "memory for a source");
@@ -730,13 +715,6 @@ fn hold(rt: &impl Abort, alloc: Global, front: &str, table: Table) {
             &(*source, printed.as_str(), status),
             &(*source, *line, 3),
         );
-    }
-}
-
-/// Each source of these tables has its line behind this front, and status 3.
-pub fn all_hold(rt: &impl Abort, alloc: Global, front: &str, tables: &[Table]) {
-    for table in tables {
-        hold(rt, alloc, front, table);
     }
 }
 
@@ -829,6 +807,56 @@ fn counts_of_tokens(rt: HostRuntime) {
 }
 
 #[test]
-fn tables(rt: HostRuntime) {
-    all_hold(&rt, rt.alloc(), "", TABLES);
+fn structs(rt: HostRuntime) {
+    hold(&rt, rt.alloc(), "", STRUCTS);
+}
+
+#[test]
+fn functions(rt: HostRuntime) {
+    hold(&rt, rt.alloc(), "", FUNCTIONS);
+}
+
+#[test]
+fn declarations(rt: HostRuntime) {
+    hold(&rt, rt.alloc(), "", DECLARATIONS);
+}
+
+#[test]
+fn assignments(rt: HostRuntime) {
+    hold(&rt, rt.alloc(), "", ASSIGNMENTS);
+}
+
+#[test]
+fn calls(rt: HostRuntime) {
+    hold(&rt, rt.alloc(), "", CALLS);
+}
+
+#[test]
+fn branches(rt: HostRuntime) {
+    hold(&rt, rt.alloc(), "", BRANCHES);
+}
+
+#[test]
+fn annotations(rt: HostRuntime) {
+    hold(&rt, rt.alloc(), "", ANNOTATIONS);
+}
+
+#[test]
+fn ghosts(rt: HostRuntime) {
+    hold(&rt, rt.alloc(), "", GHOSTS);
+}
+
+#[test]
+fn expressions(rt: HostRuntime) {
+    hold(&rt, rt.alloc(), "", EXPRESSIONS);
+}
+
+#[test]
+fn specs(rt: HostRuntime) {
+    hold(&rt, rt.alloc(), "", SPECS);
+}
+
+#[test]
+fn tokens(rt: HostRuntime) {
+    hold(&rt, rt.alloc(), "", TOKENS);
 }

@@ -2,7 +2,7 @@
 //! where was worked out by hand, from docs/TYPING.md and the definitions of the rules.
 
 use crate::rows::is;
-use crate::sources::{Table, all_hold, gives};
+use crate::sources::{gives, hold};
 use std::alloc::{AllocError, Global};
 use std::fmt::Write;
 use std::process::Abort;
@@ -783,14 +783,54 @@ const ORDER: &[(&str, &str)] = &[
     ("int f() { } void main() { y = 1; }", "source 2:11: rule 21"),
 ];
 
-/// All tables of this file.
-const TABLES: &[Table] = &[
-    NAMES, VALUES, CALLS, GHOSTS, ATOMIC, OWNERSHIP, INVARIANTS, WORDS, FUNCTIONS, ORDER,
-];
+#[test]
+fn names(rt: HostRuntime) {
+    hold(&rt, rt.alloc(), DECLARATIONS, NAMES);
+}
 
 #[test]
-fn tables(rt: HostRuntime) {
-    all_hold(&rt, rt.alloc(), DECLARATIONS, TABLES);
+fn values(rt: HostRuntime) {
+    hold(&rt, rt.alloc(), DECLARATIONS, VALUES);
+}
+
+#[test]
+fn calls(rt: HostRuntime) {
+    hold(&rt, rt.alloc(), DECLARATIONS, CALLS);
+}
+
+#[test]
+fn ghosts(rt: HostRuntime) {
+    hold(&rt, rt.alloc(), DECLARATIONS, GHOSTS);
+}
+
+#[test]
+fn atomic(rt: HostRuntime) {
+    hold(&rt, rt.alloc(), DECLARATIONS, ATOMIC);
+}
+
+#[test]
+fn ownership(rt: HostRuntime) {
+    hold(&rt, rt.alloc(), DECLARATIONS, OWNERSHIP);
+}
+
+#[test]
+fn invariants(rt: HostRuntime) {
+    hold(&rt, rt.alloc(), DECLARATIONS, INVARIANTS);
+}
+
+#[test]
+fn words(rt: HostRuntime) {
+    hold(&rt, rt.alloc(), DECLARATIONS, WORDS);
+}
+
+#[test]
+fn functions(rt: HostRuntime) {
+    hold(&rt, rt.alloc(), DECLARATIONS, FUNCTIONS);
+}
+
+#[test]
+fn order(rt: HostRuntime) {
+    hold(&rt, rt.alloc(), DECLARATIONS, ORDER);
 }
 
 /// So many structs, functions over them, and variables of `main`, each with names of its own.

@@ -55,7 +55,8 @@ fn from<'a>(list: &'a [Token<'a>], at: usize) -> &'a [Token<'a>] {
 
 /// The rows tell what is read of their tokens.
 pub fn all_hold<'a, R: Reader>(rt: &impl Abort, alloc: Global, lists: &[List<'a, R>]) {
-    for (kinds, rows) in lists {
+    for list in lists {
+        let (kinds, rows) = *list;
         hold(rt, alloc, kinds, rows);
     }
 }
