@@ -35,9 +35,8 @@ fn in_box<T: Drop>(rt: &impl Abort, alloc: Global, x: T) -> Box<T>
 fn single<T: Drop>(rt: &impl Abort, alloc: Global, x: T) -> Vec<T>
     ensures { result.items ≡ x ∷ [] }
 {
-    let Ok(list) = Vec::from_array(alloc, [x]) else {
-        panic!(rt; "no memory for a list");
-    };
+    let mut list = Vec::new(alloc);
+    list.push(x).expect(rt, "memory for a list");
     list
 }
 
