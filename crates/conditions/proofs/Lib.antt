@@ -1,0 +1,13 @@
+pub mod Ways
+pub mod WaysBetween
+pub mod Tests
+pub mod PathTests
+pub mod Expressions
+pub mod Same
+pub mod Texts
+pub mod Hiding
+pub mod Joins
+pub mod FromRuns
+pub mod ToRuns
+pub mod Stores
+pub mod FailingTests

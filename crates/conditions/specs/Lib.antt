@@ -1,0 +1,13 @@
+pub mod Formulas
+pub mod Symbolic
+pub mod Annotations
+pub mod Paths
+pub mod Code
+pub mod Quantified
+pub mod Admissible
+pub mod Actions
+pub mod Statements
+pub mod Conditions
+pub mod Numbering
+pub mod Ways
+pub mod Rows
