@@ -121,8 +121,8 @@ const WORDS: &[(&str, &str)] = &[
         "Claimable DynamicOwns VolatileOwns Struct Volatile Invariant Ghost Int Unsigned Long Void Requires Ensures Maintains Writes If Else While Do For Return VccSpawn Free Assert Wrap Unwrap Unwrapping Atomic Malloc Sizeof CompareExchange Exchange Increment Decrement Null ",
     ),
     (
-        "\\object \\claim \\span \\extent \\owns \\destroy_claim \\make_claim \\in \\true \\false \\this \\me \\result \\old \\unchanged \\mine \\wrapped \\wrapped0 \\mutable \\fresh \\claims_object \\claims \\closed \\owner \\claim_count \\forall \\exists",
-        "Object Claim Span Extent Owns DestroyClaim MakeClaim In True False This Me Result Old Unchanged Mine Wrapped WrappedUnclaimed Mutable Fresh ClaimsObject Claims Closed Owner ClaimCount Forall Exists ",
+        "\\object \\claim \\span \\extent \\owns \\destroy_claim \\make_claim \\in \\true \\false \\this \\me \\result \\old \\unchanged \\mine \\wrapped \\wrapped0 \\mutable \\fresh \\claims_object \\claims \\claims_only \\approves \\closed \\owner \\claim_count \\forall \\exists",
+        "Object Claim Span Extent Owns DestroyClaim MakeClaim In True False This Me Result Old Unchanged Mine Wrapped WrappedUnclaimed Mutable Fresh ClaimsObject Claims ClaimsOnly Approves Closed Owner ClaimCount Forall Exists ",
     ),
     (
         "While whiles int_ _int null x9",
@@ -130,6 +130,14 @@ const WORDS: &[(&str, &str)] = &[
     ),
     ("\\wrapped1 \\a \\While\\in_", "other other other other "),
     ("\\mine(a) \\in b", "Mine Open 'a' Close In 'b' "),
+    (
+        "\\approves(\\this->\\owner, a)",
+        "Approves Open This Arrow Owner Comma 'a' Close ",
+    ),
+    (
+        "\\claims_onl \\claims_only1 \\approve",
+        "other other other ",
+    ),
 ];
 
 /// Numbers, with the first type that holds them, and what is no number.

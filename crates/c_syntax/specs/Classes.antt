@@ -19,7 +19,7 @@ words =
     Key k.Wrap ∷ Key k.Unwrap ∷ Key k.Unwrapping ∷ Key k.Atomic ∷ Key k.Malloc ∷ Key k.Sizeof ∷ Key k.CompareExchange ∷ Key k.Exchange ∷
     Key k.Increment ∷ Key k.Decrement ∷ Key k.Null ∷ Spec w.Object ∷ Spec w.Claim ∷ Spec w.Span ∷ Spec w.Extent ∷ Spec w.Owns ∷ Spec w.DestroyClaim ∷
     Spec w.MakeClaim ∷ Spec w.In ∷ Spec w.True ∷ Spec w.False ∷ Spec w.This ∷ Spec w.Me ∷ Spec w.Result ∷ Spec w.Old ∷ Spec w.Unchanged ∷
-    Spec w.Mine ∷ Spec w.Wrapped ∷ Spec w.WrappedUnclaimed ∷ Spec w.Mutable ∷ Spec w.Fresh ∷ Spec w.ClaimsObject ∷ Spec w.Claims ∷ Spec w.Closed ∷
+    Spec w.Mine ∷ Spec w.Wrapped ∷ Spec w.WrappedUnclaimed ∷ Spec w.Mutable ∷ Spec w.Fresh ∷ Spec w.ClaimsObject ∷ Spec w.Claims ∷ Spec w.ClaimsOnly ∷ Spec w.Approves ∷ Spec w.Closed ∷
     Spec w.Owner ∷ Spec w.ClaimCount ∷ Spec w.Forall ∷ Spec w.Exists ∷ Mark s.Open ∷ Mark s.Close ∷ Mark s.BraceOpen ∷ Mark s.BraceClose ∷
     Mark s.BracketOpen ∷ Mark s.BracketClose ∷ Mark s.Annotation ∷ Mark s.Semicolon ∷ Mark s.Comma ∷ Mark s.Arrow ∷ Mark s.Assign ∷
     Mark s.AddAssign ∷ Mark s.SubtractAssign ∷ Mark s.Increment ∷ Mark s.Decrement ∷ Mark s.Equal ∷ Mark s.NotEqual ∷ Mark s.Less ∷
@@ -87,51 +87,53 @@ spec w.Mutable = 57
 spec w.Fresh = 58
 spec w.ClaimsObject = 59
 spec w.Claims = 60
-spec w.Closed = 61
-spec w.Owner = 62
-spec w.ClaimCount = 63
-spec w.Forall = 64
-spec w.Exists = 65
+spec w.ClaimsOnly = 61
+spec w.Approves = 62
+spec w.Closed = 63
+spec w.Owner = 64
+spec w.ClaimCount = 65
+spec w.Forall = 66
+spec w.Exists = 67
 
 abbrev pub sign : Sign → ℕ
-sign s.Open = 66
-sign s.Close = 67
-sign s.BraceOpen = 68
-sign s.BraceClose = 69
-sign s.BracketOpen = 70
-sign s.BracketClose = 71
-sign s.Annotation = 72
-sign s.Semicolon = 73
-sign s.Comma = 74
-sign s.Arrow = 75
-sign s.Assign = 76
-sign s.AddAssign = 77
-sign s.SubtractAssign = 78
-sign s.Increment = 79
-sign s.Decrement = 80
-sign s.Equal = 81
-sign s.NotEqual = 82
-sign s.Less = 83
-sign s.LessEqual = 84
-sign s.Greater = 85
-sign s.GreaterEqual = 86
-sign s.Plus = 87
-sign s.Minus = 88
-sign s.Star = 89
-sign s.Slash = 90
-sign s.Percent = 91
-sign s.Not = 92
-sign s.And = 93
-sign s.Or = 94
-sign s.Question = 95
-sign s.Colon = 96
-sign s.Ampersand = 97
-sign s.Implies = 98
-sign s.Equivalent = 99
-sign s.Dot = 100
-sign s.Bar = 101
-sign s.Caret = 102
-sign s.Tilde = 103
+sign s.Open = 68
+sign s.Close = 69
+sign s.BraceOpen = 70
+sign s.BraceClose = 71
+sign s.BracketOpen = 72
+sign s.BracketClose = 73
+sign s.Annotation = 74
+sign s.Semicolon = 75
+sign s.Comma = 76
+sign s.Arrow = 77
+sign s.Assign = 78
+sign s.AddAssign = 79
+sign s.SubtractAssign = 80
+sign s.Increment = 81
+sign s.Decrement = 82
+sign s.Equal = 83
+sign s.NotEqual = 84
+sign s.Less = 85
+sign s.LessEqual = 86
+sign s.Greater = 87
+sign s.GreaterEqual = 88
+sign s.Plus = 89
+sign s.Minus = 90
+sign s.Star = 91
+sign s.Slash = 92
+sign s.Percent = 93
+sign s.Not = 94
+sign s.And = 95
+sign s.Or = 96
+sign s.Question = 97
+sign s.Colon = 98
+sign s.Ampersand = 99
+sign s.Implies = 100
+sign s.Equivalent = 101
+sign s.Dot = 102
+sign s.Bar = 103
+sign s.Caret = 104
+sign s.Tilde = 105
 
 abbrev pub class_of : Word → ℕ
 class_of End = 0

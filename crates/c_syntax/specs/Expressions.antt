@@ -7,6 +7,7 @@ use Rattle.c_syntax.specs.declared.tree.Status.{Status}
 use Rattle.c_syntax.specs.declared.tree.UnaryOperator.{UnaryOperator}
 use Rattle.c_syntax.specs.declared.tree.BinaryOperator.{BinaryOperator}
 use Rattle.c_syntax.specs.declared.tree.SpecFunction.{SpecFunction}
+use Rattle.c_syntax.specs.declared.tree.ListWord.{ListWord}
 use Rattle.c_syntax.specs.declared.tree.Quantifier.{Quantifier}
 use Rattle.c_syntax.specs.declared.tree.Interlocked.{Interlocked}
 
@@ -37,9 +38,10 @@ mutual
     Binary : Span → BinaryOperator → Exp → Exp → Exp
     Conditional : Span → Exp → Exp → Exp → Exp
     Apply : Span → SpecFunction → Exp → Exp
-    Mine : Span → Exps → Exp
+    Several : Span → ListWord → Exps → Exp
     ClaimsObject : Span → Exp → Exp → Exp
     Claims : Span → Exp → Exp → Exp
+    Approves : Span → Id → Exp
     Quantified : Span → Quantifier → Ty → Id → Exp → Exp
 
   -- expressions with commas between

@@ -16,6 +16,8 @@ use Rattle.c_syntax.specs.declared.tree.BinaryOperator.{BinaryOperator}
 use Rattle.c_syntax.specs.declared.tree.BinaryOperator.TheVariants as op
 use Rattle.c_syntax.specs.declared.tree.SpecFunction.{SpecFunction}
 use Rattle.c_syntax.specs.declared.tree.SpecFunction.TheVariants as functions
+use Rattle.c_syntax.specs.declared.tree.ListWord.{ListWord}
+use Rattle.c_syntax.specs.declared.tree.ListWord.TheVariants as lists
 use Rattle.c_syntax.specs.declared.tree.Quantifier.{Quantifier}
 use Rattle.c_syntax.specs.declared.tree.Quantifier.TheVariants as quantifiers
 use Rattle.c_syntax.specs.declared.tree.Interlocked.{Interlocked}
@@ -281,6 +283,13 @@ apply class f p = form (word class ▷ inside p ▷ nothing (λ x o. e.Apply o f
 abbrev pub two : {A : Type 0} → P Exp → P Exp → (Exp → Exp → A) → P A
 two p q f = word (sign s.Open) ▷ p ▷ word (sign s.Comma) ▷ q ▷ word (sign s.Close) ▷ nothing (λ c y m x o. f x y)
 
+abbrev pub several : (class : ℕ) → ListWord → R Exp
+several class w = form (word class ▷ inside (list spec_exp) ▷ nothing (λ xs o. e.Several o w (exps_of xs)))
+
+-- `\this->\owner`, which is 2 high as every arrow behind a word
+abbrev pub this_owner : P Span
+this_owner = word (spec w.This) ▷ word (sign s.Arrow) ▷ token (spec w.Owner) 2 (λ x. x.place) ▷ nothing (λ o a t. t)
+
 abbrev pub quantified : (class : ℕ) → Quantifier → R Exp
 quantified class q = form (word class ▷ gtype ▷ name ▷ word (sign s.Semicolon) ▷ whole_spec ▷ nothing (λ x m n ty o. e.Quantified o q ty.1 n x))
 
@@ -290,9 +299,10 @@ spec_word =
     pick (constant (spec w.True) constants.True) (pick (constant (spec w.False) constants.False) (pick (constant (spec w.This) constants.This) (pick (constant (spec w.Me) constants.Me) (pick (constant (spec w.Result) constants.Result)
     (pick (apply (spec w.Old) functions.Old whole_spec) (pick (apply (spec w.Unchanged) functions.Unchanged whole_spec) (pick (apply (spec w.Wrapped) functions.Wrapped spec_exp) (pick (apply (spec w.WrappedUnclaimed) functions.WrappedUnclaimed spec_exp)
     (pick (apply (spec w.Mutable) functions.Mutable spec_exp) (pick (apply (spec w.Fresh) functions.Fresh spec_exp)
-    (pick (form (word (spec w.Mine) ▷ inside (list spec_exp) ▷ nothing (λ xs o. e.Mine o (exps_of xs))))
+    (pick (several (spec w.Mine) lists.Mine) (pick (several (spec w.ClaimsOnly) lists.ClaimsOnly)
     (pick (form (word (spec w.ClaimsObject) ▷ two spec_exp spec_exp (λ x y o. e.ClaimsObject o x y)))
-    (form (word (spec w.Claims) ▷ two spec_exp whole_spec (λ x y o. e.Claims o x y)))))))))))))))
+    (pick (form (word (spec w.Claims) ▷ two spec_exp whole_spec (λ x y o. e.Claims o x y)))
+    (form (word (spec w.Approves) ▷ word (sign s.Open) ▷ this_owner ▷ word (sign s.Comma) ▷ name ▷ word (sign s.Close) ▷ nothing (λ c x m o b p. e.Approves p x)))))))))))))))))
 
 -- quantifiers reach as far right as they can
 abbrev pub quantifier : R Exp
@@ -600,9 +610,10 @@ first_place (e.Unary p o x) = p
 first_place (e.Binary p o x y) = first_place x
 first_place (e.Conditional p x y z) = first_place x
 first_place (e.Apply p f x) = p
-first_place (e.Mine p xs) = p
+first_place (e.Several p w xs) = p
 first_place (e.ClaimsObject p x y) = p
 first_place (e.Claims p x y) = p
+first_place (e.Approves p x) = p
 first_place (e.Quantified p q ty x y) = p
 
 -- ---- ghost statements

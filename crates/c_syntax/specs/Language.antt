@@ -48,7 +48,7 @@ unnamed_begins = 2 ∷ key k.Null ∷ sign s.Open ∷ []
 
 abbrev set_begins : List ℕ
 set_begins =
-    1 ∷ 2 ∷ key k.Null ∷ sign s.Open ∷ spec w.True ∷ spec w.False ∷ spec w.This ∷ spec w.Me ∷ spec w.Result ∷ spec w.Old ∷ spec w.Unchanged ∷ spec w.Wrapped ∷ spec w.WrappedUnclaimed ∷ spec w.Mutable ∷ spec w.Fresh ∷ spec w.Mine ∷ spec w.ClaimsObject ∷ spec w.Claims ∷ []
+    1 ∷ 2 ∷ key k.Null ∷ sign s.Open ∷ spec w.True ∷ spec w.False ∷ spec w.This ∷ spec w.Me ∷ spec w.Result ∷ spec w.Old ∷ spec w.Unchanged ∷ spec w.Wrapped ∷ spec w.WrappedUnclaimed ∷ spec w.Mutable ∷ spec w.Fresh ∷ spec w.Mine ∷ spec w.ClaimsOnly ∷ spec w.ClaimsObject ∷ spec w.Claims ∷ spec w.Approves ∷ []
 
 abbrev quantifier_begins : List ℕ
 quantifier_begins = spec w.Forall ∷ spec w.Exists ∷ []

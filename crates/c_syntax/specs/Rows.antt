@@ -196,6 +196,14 @@ items =
     item 11 (Key k.Void ∷ name ∷ Mark s.Open ∷ Mark s.Close ∷ Mark s.BraceOpen ∷ Mark s.Annotation ∷ Key k.Assert ∷ Spec w.Claims ∷ Mark s.Open ∷ name ∷ Mark s.Comma ∷ Spec w.Unchanged ∷ Mark s.Open ∷ name ∷ Mark s.Arrow ∷ name ∷ Mark s.Close ∷ Mark s.Implies ∷ number ∷ Mark s.Close ∷ Mark s.Or ∷ Spec w.WrappedUnclaimed ∷ Mark s.Open ∷ name ∷ Mark s.Close ∷ Mark s.Or ∷ Spec w.Mutable ∷ Mark s.Open ∷ Spec w.This ∷ Mark s.Close ∷ Mark s.Or ∷ Spec w.Fresh ∷ Mark s.Open ∷ Spec w.Me ∷ Mark s.Close ∷ Mark s.Close ∷ Mark s.BraceClose ∷ []) ∷
     -- void f() { _(assert \mine(a, b->c)) }
     item 6 (Key k.Void ∷ name ∷ Mark s.Open ∷ Mark s.Close ∷ Mark s.BraceOpen ∷ Mark s.Annotation ∷ Key k.Assert ∷ Spec w.Mine ∷ Mark s.Open ∷ name ∷ Mark s.Comma ∷ name ∷ Mark s.Arrow ∷ name ∷ Mark s.Close ∷ Mark s.Close ∷ Mark s.BraceClose ∷ []) ∷
+    -- void f() { _(assert \claims_only(c, o)) }
+    item 5 (Key k.Void ∷ name ∷ Mark s.Open ∷ Mark s.Close ∷ Mark s.BraceOpen ∷ Mark s.Annotation ∷ Key k.Assert ∷ Spec w.ClaimsOnly ∷ Mark s.Open ∷ name ∷ Mark s.Comma ∷ name ∷ Mark s.Close ∷ Mark s.Close ∷ Mark s.BraceClose ∷ []) ∷
+    -- void f() { _(assert \claims_only(c)) }
+    item 5 (Key k.Void ∷ name ∷ Mark s.Open ∷ Mark s.Close ∷ Mark s.BraceOpen ∷ Mark s.Annotation ∷ Key k.Assert ∷ Spec w.ClaimsOnly ∷ Mark s.Open ∷ name ∷ Mark s.Close ∷ Mark s.Close ∷ Mark s.BraceClose ∷ []) ∷
+    -- struct S { volatile int a; _(invariant \approves(\this->\owner, a)) };
+    item 5 (Key k.Struct ∷ name ∷ Mark s.BraceOpen ∷ Key k.Volatile ∷ Key k.Int ∷ name ∷ Mark s.Semicolon ∷ Mark s.Annotation ∷ Key k.Invariant ∷ Spec w.Approves ∷ Mark s.Open ∷ Spec w.This ∷ Mark s.Arrow ∷ Spec w.Owner ∷ Mark s.Comma ∷ name ∷ Mark s.Close ∷ Mark s.Close ∷ Mark s.BraceClose ∷ Mark s.Semicolon ∷ []) ∷
+    -- struct S { volatile int a; _(invariant a && \approves(\this->\owner, a)) };
+    item 6 (Key k.Struct ∷ name ∷ Mark s.BraceOpen ∷ Key k.Volatile ∷ Key k.Int ∷ name ∷ Mark s.Semicolon ∷ Mark s.Annotation ∷ Key k.Invariant ∷ name ∷ Mark s.And ∷ Spec w.Approves ∷ Mark s.Open ∷ Spec w.This ∷ Mark s.Arrow ∷ Spec w.Owner ∷ Mark s.Comma ∷ name ∷ Mark s.Close ∷ Mark s.Close ∷ Mark s.BraceClose ∷ Mark s.Semicolon ∷ []) ∷
     -- void f() { _(assert \true <= \false) }
     item 5 (Key k.Void ∷ name ∷ Mark s.Open ∷ Mark s.Close ∷ Mark s.BraceOpen ∷ Mark s.Annotation ∷ Key k.Assert ∷ Spec w.True ∷ Mark s.LessEqual ∷ Spec w.False ∷ Mark s.Close ∷ Mark s.BraceClose ∷ []) ∷
     -- void f() { do ; while (1); }
@@ -244,6 +252,14 @@ items =
 
 abbrev faults : List Bool
 faults =
+    -- void f() { _(assert \claims_only(^)) }
+    unexpected (Key k.Void ∷ name ∷ Mark s.Open ∷ Mark s.Close ∷ Mark s.BraceOpen ∷ Mark s.Annotation ∷ Key k.Assert ∷ Spec w.ClaimsOnly ∷ Mark s.Open ∷ []) (Mark s.Close ∷ Mark s.Close ∷ Mark s.BraceClose ∷ []) ∷
+    -- struct S { volatile int a; _(invariant \approves(^a)) };
+    unexpected (Key k.Struct ∷ name ∷ Mark s.BraceOpen ∷ Key k.Volatile ∷ Key k.Int ∷ name ∷ Mark s.Semicolon ∷ Mark s.Annotation ∷ Key k.Invariant ∷ Spec w.Approves ∷ Mark s.Open ∷ []) (name ∷ Mark s.Close ∷ Mark s.Close ∷ Mark s.BraceClose ∷ []) ∷
+    -- struct S { volatile int a; _(invariant \approves(\this->^a, a)) };
+    unexpected (Key k.Struct ∷ name ∷ Mark s.BraceOpen ∷ Key k.Volatile ∷ Key k.Int ∷ name ∷ Mark s.Semicolon ∷ Mark s.Annotation ∷ Key k.Invariant ∷ Spec w.Approves ∷ Mark s.Open ∷ Spec w.This ∷ Mark s.Arrow ∷ []) (name ∷ Mark s.Comma ∷ name ∷ Mark s.Close ∷ Mark s.Close ∷ Mark s.BraceClose ∷ []) ∷
+    -- struct S { volatile int a; _(invariant \approves(\this->\owner^)) };
+    unexpected (Key k.Struct ∷ name ∷ Mark s.BraceOpen ∷ Key k.Volatile ∷ Key k.Int ∷ name ∷ Mark s.Semicolon ∷ Mark s.Annotation ∷ Key k.Invariant ∷ Spec w.Approves ∷ Mark s.Open ∷ Spec w.This ∷ Mark s.Arrow ∷ Spec w.Owner ∷ []) (Mark s.Close ∷ Mark s.Close ∷ Mark s.BraceClose ∷ []) ∷
     -- void f() { a ^+ b->x = 1; }
     unexpected (Key k.Void ∷ name ∷ Mark s.Open ∷ Mark s.Close ∷ Mark s.BraceOpen ∷ name ∷ []) (Mark s.Plus ∷ name ∷ Mark s.Arrow ∷ name ∷ Mark s.Assign ∷ number ∷ Mark s.Semicolon ∷ Mark s.BraceClose ∷ []) ∷
     -- void f() { 5 ^+ 1; }

@@ -70,9 +70,10 @@ abbrev mutual
   exp (v.Binary' o f q x r y) = e.Binary o f (exp x) (exp y)
   exp (v.Conditional' o q x r y t z) = e.Conditional o (exp x) (exp y) (exp z)
   exp (v.Apply' o f q x) = e.Apply o f (exp x)
-  exp (v.Mine' o m xs) = e.Mine o (row xs)
+  exp (v.Several' o w m xs) = e.Several o w (row xs)
   exp (v.ClaimsObject' o q x r y) = e.ClaimsObject o (exp x) (exp y)
   exp (v.Claims' o q x r y) = e.Claims o (exp x) (exp y)
+  exp (v.Approves o x) = e.Approves o (id x)
   exp (v.Quantified' o k t n q x) = e.Quantified o k (ty t) (id n) (exp x)
 
   pub row : {m : _} → Row_of-Expr m → Exps

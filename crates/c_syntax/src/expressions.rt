@@ -3,7 +3,8 @@
 
 use crate::token::Span;
 use crate::tree::{
-    BinaryOperator, Constant, Interlocked, Quantifier, SpecFunction, Status, UnaryOperator,
+    BinaryOperator, Constant, Interlocked, ListWord, Quantifier, SpecFunction, Status,
+    UnaryOperator,
 };
 use int_ranges::ctype::CType;
 
@@ -48,12 +49,14 @@ pub enum Expr {
     /// with the place of the `?`
     Conditional(Span, Box<Expr>, Box<Expr>, Box<Expr>),
     Apply(Span, SpecFunction, Box<Expr>),
-    /// `\mine` and its arguments, of which there is one at least
-    Mine(Span, Vec<Expr>),
+    /// a word and its arguments, of which there is one at least
+    Several(Span, ListWord, Vec<Expr>),
     /// `\claims_object`
     ClaimsObject(Span, Box<Expr>, Box<Expr>),
     /// `\claims`
     Claims(Span, Box<Expr>, Box<Expr>),
+    /// `\approves(\this->\owner, f)`, with the name of the field
+    Approves(Span, Identifier),
     Quantified(Span, Quantifier, ValueType, Identifier, Box<Expr>),
 }
 

@@ -79,6 +79,8 @@ pub enum SpecWord {
     Fresh,
     ClaimsObject,
     Claims,
+    ClaimsOnly,
+    Approves,
     Closed,
     Owner,
     ClaimCount,

@@ -57,6 +57,15 @@ pub enum SpecFunction {
     Fresh,
 }
 
+/// Words of a list of arguments, of which there is one at least.
+#[derive(Clone, Copy, Debug, PartialEq, Eq)]
+pub enum ListWord {
+    /// each is a member of the owned set of `\this`
+    Mine,
+    /// the first claims the others, and nothing else
+    ClaimsOnly,
+}
+
 #[derive(Clone, Copy, Debug, PartialEq, Eq)]
 pub enum Quantifier {
     ForAll,

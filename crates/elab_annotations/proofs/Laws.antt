@@ -2,8 +2,9 @@
 use Rattle.std.proofs.Common.{◌≡◌, ℕ, ◌+◌, List, [], ◌∷◌, ◌++◌, refl, sym, ap, ◌∙◌, map, arith}
 use Rattle.c_syntax.specs.declared.token.Span.{Span}
 use Rattle.c_syntax.specs.declared.tree.BinaryOperator.TheVariants as op
+use Rattle.c_syntax.specs.declared.tree.ListWord.TheVariants as lists
 use Rattle.c_syntax.specs.Expressions as e
-use Rattle.c_syntax.specs.Expressions.{Exp}
+use Rattle.c_syntax.specs.Expressions.{Exp, Exps}
 use Rattle.c_syntax.specs.Grammar.{exps_of}
 use Rattle.method.specs.declared.program.DeclaredType.{DeclaredType}
 use Rattle.typed_program.specs.Trees as t
@@ -11,7 +12,7 @@ use Rattle.typed_program.specs.Trees.{listed}
 use Rattle.typed_program.specs.Numbers.{Around}
 use Rattle.typed_program.specs.Annotations as a
 use Rattle.typed_program.specs.Annotations.{formulas, all_formulas}
-use Rattle.elab_annotations.specs.Typing.{alone, nothing, pushed, appended, in_row, member, mine_typed, claims_typed, exists_typed, arguments_typed, conjuncts_typed, exists_body_typed, others_typed}
+use Rattle.elab_annotations.specs.Typing.{alone, nothing, pushed, appended, in_row, member, mine_typed, claims_typed, claims_only_typed, exact_set_typed, exists_typed, arguments_typed, mine_arguments_typed, conjuncts_typed, exists_body_typed, others_typed}
 use Rattle.elab_annotations.specs.Views.{Several, typed}
 
 abbrev several : List t.Spec → ℕ → Several
@@ -41,8 +42,25 @@ members_are : (c : Around) (n : ℕ) (xs : List Exp) → in_row (map member (a.a
 members_are c n [] = refl
 members_are c n (x ∷ xs) = ap (t.With (member (a.spec c n x))) (members_are c (n + formulas x) xs)
 
-pub mine_law : (c : Around) (n : ℕ) (p : Span) (xs : List Exp) → mine_typed (arguments_typed c n xs) ≡ typed c n (e.Mine p (exps_of xs))
-mine_law c n p xs = whole (ap a.all_hold (members_are c n xs)) refl
+pub mine_law : (c : Around) (n : ℕ) (p : Span) (xs : List Exp) → mine_typed (arguments_typed c n xs) ≡ typed c n (e.Several p lists.Mine (exps_of xs))
+mine_law c n p xs = whole (ap a.all_hold (members_are c n xs)) (omega arith)
+
+each_is : (c : Around) (n : ℕ) (xs : List Exp) → in_row (a.arguments c n (exps_of xs)) ≡ a.each_spec c n (exps_of xs)
+each_is c n [] = refl
+each_is c n (x ∷ xs) = ap (t.With (a.spec c n x)) (each_is c (n + formulas x) xs)
+
+pub exact_set_law : (c : Around) (n : ℕ) (x : Exp) (xs : List Exp) → claims_only_typed n (typed c (1 + n) x) (arguments_typed c ((1 + n) + formulas x) xs) ≡ exact_set_typed c n (x ∷ xs)
+exact_set_law c n x xs = whole (ap (t.SClaimsOnly n (a.spec c (1 + n) x)) (each_is c ((1 + n) + formulas x) xs ∙ ap (λ m. a.each_spec c m (exps_of xs)) (omega arith))) (omega arith)
+
+pub several_law : (c : Around) (n : ℕ) (p : Span) (xs : List Exp) → exact_set_typed c n xs ≡ typed c n (e.Several p lists.ClaimsOnly (exps_of xs))
+several_law c n p xs = refl
+
+-- `\mine` at the top of an invariant has its arguments, and `\claims_only` has none
+pub owned_law : (c : Around) (n : ℕ) (p : Span) (xs : List Exp) → arguments_typed c n xs ≡ mine_arguments_typed c n (e.Several p lists.Mine (exps_of xs))
+owned_law c n p xs = rows refl (omega arith)
+
+pub unowned_law : (c : Around) (n : ℕ) (x : Exp) (p : Span) (ys : Exps) → x ≡ e.Several p lists.ClaimsOnly ys → nothing (n + formulas x) ≡ mine_arguments_typed c n x
+unowned_law c n x p ys h = rows (sym (ap (a.mine c n) h)) refl
 
 pub no_arguments : (c : Around) (n : ℕ) → nothing n ≡ arguments_typed c n []
 no_arguments c n = rows refl (omega arith)

@@ -2,10 +2,11 @@
 use Rattle.std.proofs.Common.{◌≡◌, ℕ, zero, suc, ◌+◌, ◌<◌, ◌≤◌, List, [], ◌∷◌, refl, ap, Vec, length, get_or, drop, arith}
 use Rattle.std.specs.declared.alloc.Global.{Global}
 use Rattle.c_syntax.specs.declared.token.Span.{Span}
+use Rattle.c_syntax.specs.declared.tree.ListWord.{ListWord}
 use Rattle.c_syntax.specs.declared.expressions.Expr as x
 use Rattle.c_syntax.specs.Grammar.{exps_of}
 use Rattle.c_syntax.specs.Views.{exp, exps}
-use Rattle.typing_expressions.proofs.Rows.{mine, drop_at}
+use Rattle.typing_expressions.proofs.Rows.{several, drop_at}
 use Rattle.typed_program.specs.Annotations.{formulas, all_formulas}
 use Rattle.elab_annotations.specs.Sizes.{parts, all_parts}
 
@@ -16,8 +17,8 @@ item_parts [] i y lt is = absurd (omega arith)
 item_parts (x ∷ xs) zero y lt is = let h = ap (λ z. parts (exp z)) is in omega (arith, h)
 item_parts (x ∷ xs) (suc i) y lt is = let h = item_parts xs i y (omega arith) is in omega (arith, h)
 
-pub mine_parts : (a : x.Expr) (span : Span) (all : Vec x.Expr Global) (items : List x.Expr) → a ≡ x.Mine span all → items ≡ all.items → parts (exp a) ≡ 1 + all_parts (exps_of (exps items))
-mine_parts a span all items d f = ap parts (mine a span all items d f)
+pub several_parts : (a : x.Expr) (span : Span) (word : ListWord) (all : Vec x.Expr Global) (items : List x.Expr) → a ≡ x.Several span word all → items ≡ all.items → parts (exp a) ≡ 1 + all_parts (exps_of (exps items))
+several_parts a span word all items d f = ap parts (several a span word all items d f)
 
 -- ---- how many formulas
 

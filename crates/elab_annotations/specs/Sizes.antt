@@ -18,9 +18,10 @@ abbrev mutual
   parts (e.Binary p o x y) = 1 + (parts x + parts y)
   parts (e.Conditional p x y z) = 1 + (parts x + (parts y + parts z))
   parts (e.Apply p h x) = 1 + parts x
-  parts (e.Mine p xs) = 1 + all_parts xs
+  parts (e.Several p w xs) = 1 + all_parts xs
   parts (e.ClaimsObject p x y) = 1 + (parts x + parts y)
   parts (e.Claims p x y) = 1 + (parts x + parts y)
+  parts (e.Approves p x) = 1
   parts (e.Quantified p k ty n x) = 1 + parts x
 
   pub all_parts : Exps → ℕ

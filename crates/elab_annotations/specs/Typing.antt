@@ -64,6 +64,10 @@ mine_typed xs = record { spec = a.all_hold (in_row (map member xs.specs)); next 
 abbrev pub claims_typed : Typed → Several → Typed
 claims_typed x ys = record { spec = t.SClaims x.spec (in_row ys.specs); next = ys.next }
 
+-- `\claims_only` of a claim and these objects, with its number. Own
+abbrev pub claims_only_typed : ℕ → Typed → Several → Typed
+claims_only_typed n x ys = record { spec = t.SClaimsOnly n x.spec (in_row ys.specs); next = ys.next }
+
 -- `\exists` over what an object owns. VCC manual
 abbrev pub exists_typed : ℕ → DeclaredType → t.Spec → Several → Typed
 exists_typed n ty x ys = record { spec = t.SExists n ty x (in_row ys.specs); next = ys.next }
@@ -77,6 +81,10 @@ only_typed c n x = record { specs = a.spec c n x ∷ []; next = n + a.formulas x
 -- the expressions of an argument list. Own
 abbrev pub arguments_typed : Around → ℕ → List Exp → Several
 arguments_typed c n xs = record { specs = a.arguments c n (exps_of xs); next = n + a.all_formulas (exps_of xs) }
+
+-- `\claims_only` of an argument list, whose formulas are numbered behind its own. Own
+abbrev pub exact_set_typed : Around → ℕ → List Exp → Typed
+exact_set_typed c n xs = record { spec = a.claims_only c n (exps_of xs); next = n + (1 + a.all_formulas (exps_of xs)) }
 
 -- the operands of `&&`. Own
 abbrev pub property_typed : Around → ℕ → Exp → Several

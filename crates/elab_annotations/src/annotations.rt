@@ -5,7 +5,7 @@ ghost use Rattle.c_syntax.specs.Views as view;
 ghost use Rattle.elab_code.specs.Views.{around as surroundings};
 ghost use Rattle.typed_program.specs.Annotations as spec;
 ghost use Rattle.typed_program.specs.Views.{spec as said, specs};
-ghost use Rattle.elab_annotations.specs.Typing.{only_typed, arguments_typed, property_typed, conjuncts_typed, mine_arguments_typed, for_all_typed, exists_body_typed, owner_typed, others_typed, no_form_typed};
+ghost use Rattle.elab_annotations.specs.Typing.{only_typed, arguments_typed, property_typed, conjuncts_typed, exact_set_typed, mine_arguments_typed, for_all_typed, exists_body_typed, owner_typed, others_typed, no_form_typed};
 ghost use Rattle.elab_annotations.specs.Views.{annotation as unboxed, boxed as seen, typed, row_of};
 
 use crate::counts::{next_formula, plus};
@@ -13,9 +13,9 @@ use crate::parts::{
     BoxedSpec, apply, binary, claims_object, conditional, field, lists, name, status, unary,
     within_quantifier, word,
 };
-use crate::rows::{Row, all_owned, claims, exists, for_all, single};
+use crate::rows::{Row, all_owned, claims, claims_only, exists, for_all, single};
 use c_syntax::expressions::{Expr, Identifier, ValueType};
-use c_syntax::tree::{BinaryOperator, Quantifier, Status};
+use c_syntax::tree::{BinaryOperator, ListWord, Quantifier, Status};
 use elab_code::around::Around;
 use elab_code::numbers::declared_type;
 use method::program::{DeclaredType, Spec};
@@ -75,10 +75,13 @@ fn boxed<'s, 'a>(
             let inner = boxed(alloc, around, first, argument)?;
             apply(alloc, *function, inner)
         }
-        Expr::Mine(_, arguments) => {
-            let objects = row(alloc, around, first, arguments)?;
-            all_owned(alloc, objects)
-        }
+        Expr::Several(_, word, arguments) => match word {
+            ListWord::Mine => {
+                let objects = row(alloc, around, first, arguments)?;
+                all_owned(alloc, objects)
+            }
+            ListWord::ClaimsOnly => exact_set(alloc, around, first, arguments),
+        },
         Expr::ClaimsObject(_, claim, object) => {
             let front = boxed(alloc, around, first, claim)?;
             let back = boxed(alloc, around, front.next, object)?;
@@ -89,6 +92,7 @@ fn boxed<'s, 'a>(
             let back = conjuncts(alloc, around, front.next, property)?;
             claims(alloc, front, back)
         }
+        Expr::Approves(_, _) => BoxedSpec::new(alloc, Spec::Truth(true), first),
         Expr::Quantified(_, quantifier, ty, variable, body) => {
             let declared = declared_type(around.context.scope.declarations, ty)?;
             let bound = Quantified::Variable(ty, variable, around.context.scope.quantified);
@@ -131,6 +135,25 @@ fn row<'s, 'a>(
         so_far = so_far.with_boxed(one)?;
     }
     Ok(so_far)
+}
+
+/// `\claims_only` of an argument list: the first is the claim.
+#[cycle(annotations)]
+fn exact_set<'s, 'a>(
+    alloc: Global,
+    around: Around<'s, 'a>,
+    first: u32,
+    all: &'a [Expr],
+) -> Result<BoxedSpec, AllocError>
+    ensures { IfOk result (λ v. seen v ≡ exact_set_typed (surroundings around.entry) first (view.exps all.now)) }
+{
+    let start = plus(1, first)?;
+    let Some((claim, objects)) = all.split_first() else {
+        return BoxedSpec::new(alloc, Spec::Truth(false), start);
+    };
+    let front = boxed(alloc, around, start, claim)?;
+    let back = row(alloc, around, front.next, objects)?;
+    claims_only(alloc, first, front, back)
 }
 
 /// The conjuncts of the second argument of `\claims`.
@@ -373,7 +396,13 @@ fn mine_arguments<'s, 'a>(
             let back = mine_arguments(alloc, around, front.next, right)?;
             front.then(back)
         }
-        Expr::Mine(_, arguments) => row(alloc, around, first, arguments),
+        Expr::Several(_, word, arguments) => match word {
+            ListWord::Mine => row(alloc, around, first, arguments),
+            ListWord::ClaimsOnly => {
+                let next = next_formula(first, x)?;
+                Ok(Row::nothing(alloc, next))
+            }
+        },
         _ => {
             let next = next_formula(first, x)?;
             Ok(Row::nothing(alloc, next))

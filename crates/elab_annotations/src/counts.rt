@@ -6,6 +6,7 @@ ghost use Rattle.c_syntax.specs.Grammar.{exps_of};
 ghost use Rattle.typed_program.specs.Annotations as spec;
 
 use c_syntax::expressions::Expr;
+use c_syntax::tree::ListWord;
 use std::alloc::AllocError;
 
 /// The sum of two numbers.
@@ -18,6 +19,16 @@ pub fn plus(left: u32, right: u32) -> Result<u32, AllocError>
     }
 }
 
+/// How many quantified formulas a word of several arguments is itself.
+fn own_formulas(word: ListWord) -> u32
+    ensures { result ≡ spec.own_formulas word }
+{
+    match word {
+        ListWord::Mine => 0,
+        ListWord::ClaimsOnly => 1,
+    }
+}
+
 /// How many quantified formulas stand in an expression.
 #[cycle(formulas)]
 pub fn formulas(x: &Expr) -> Result<u32, AllocError>
@@ -25,6 +36,7 @@ pub fn formulas(x: &Expr) -> Result<u32, AllocError>
 {
     match x {
         Expr::Number(_, _, _) | Expr::Name(_) | Expr::Null(_) | Expr::Constant(_, _) => Ok(0),
+        Expr::Approves(_, _) => Ok(0),
         Expr::Group(_, inner) => formulas(inner),
         Expr::Field(_, left, _) => formulas(left),
         Expr::Status(_, left, _, _) => formulas(left),
@@ -43,7 +55,10 @@ pub fn formulas(x: &Expr) -> Result<u32, AllocError>
             let branches = plus(first, second)?;
             plus(condition, branches)
         }
-        Expr::Mine(_, arguments) => all_formulas(arguments),
+        Expr::Several(_, word, arguments) => {
+            let inner = all_formulas(arguments)?;
+            plus(own_formulas(*word), inner)
+        }
         Expr::ClaimsObject(_, claim, object) => {
             let first = formulas(claim)?;
             let second = formulas(object)?;

@@ -3,7 +3,7 @@
 ghost use Rattle.std.specs.Prelude.{◌≡◌, IfOk};
 ghost use Rattle.typed_program.specs.Trees as t;
 ghost use Rattle.typed_program.specs.Views.{spec as said, in_row};
-ghost use Rattle.elab_annotations.specs.Typing.{two, nothing as none, single as alone_in, pushed as with_last, appended as both, mine_typed, member as is_member, claims_typed, exists_typed};
+ghost use Rattle.elab_annotations.specs.Typing.{two, nothing as none, single as alone_in, pushed as with_last, appended as both, mine_typed, member as is_member, claims_typed, claims_only_typed, exists_typed};
 ghost use Rattle.elab_annotations.specs.Views.{annotation, boxed as seen, row_of};
 
 use crate::annotations::TypedSpec;
@@ -113,6 +113,30 @@ pub fn claims(alloc: Global, claim: BoxedSpec, conjuncts: Row) -> Result<BoxedSp
 {
     let next = conjuncts.next;
     BoxedSpec::new(alloc, claims_of(claim.spec, conjuncts.specs), next)
+}
+
+/// `\claims_only` of a claim and these objects.
+fn claims_only_of(number: u32, claim: Box<Spec>, objects: Vec<Spec>) -> Spec
+    ensures { said result ≡ t.SClaimsOnly number (said claim.value) (in_row objects.items) }
+{
+    Spec::ClaimsOnly(number, claim, objects)
+}
+
+/// `\claims_only` of a claim and these objects, with its number.
+pub fn claims_only(
+    alloc: Global,
+    number: u32,
+    claim: BoxedSpec,
+    objects: Row,
+) -> Result<BoxedSpec, AllocError>
+    ensures { IfOk result (λ v. seen v ≡ claims_only_typed number (seen claim) (row_of objects)) }
+{
+    let next = objects.next;
+    BoxedSpec::new(
+        alloc,
+        claims_only_of(number, claim.spec, objects.specs),
+        next,
+    )
 }
 
 /// `\forall` over the objects that an object owns, as what holds of each says.

@@ -2,3 +2,4 @@ pub mod Invariants
 pub mod Steps
 pub mod Clauses
 pub mod Members
+pub mod Tests

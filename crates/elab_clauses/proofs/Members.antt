@@ -6,17 +6,17 @@ use Rattle.c_syntax.specs.Views as view
 use Rattle.c_syntax.specs.Items as i
 use Rattle.c_syntax.specs.Items.{Member, StructTree, Item}
 use Rattle.typing_spec.specs.Contexts as c
-use Rattle.elab_annotations.specs.Typing.{appended, nothing}
+use Rattle.elab_annotations.specs.Typing.{appended, nothing, pushed}
 use Rattle.elab_annotations.specs.Views.{Several}
 use Rattle.elab_shapes.proofs.Rows.{drop_at, drop_all}
 use Rattle.typed_program.specs.Annotations.{mine, formulas}
 use Rattle.typed_program.specs.Numbers.{Around, fields_before}
 use Rattle.typed_program.specs.Shapes.{Sorts, numbered}
-use Rattle.typing_spec.specs.Declarations.{fields}
+use Rattle.typing_spec.specs.Declarations.{fields, is_approval}
 use Rattle.typed_program.specs.Tables as tables
 use Rattle.typed_program.specs.Tables.{invariants_of, each_invariant, around_struct}
 use Rattle.typed_program.specs.Trees as t
-use Rattle.elab_clauses.specs.Numberings.{Numbering, said}
+use Rattle.elab_clauses.specs.Numberings.{Numbering, said, typed_said}
 use Rattle.elab_clauses.specs.Typing.{struct_invariants}
 use Rattle.elab_clauses.proofs.Invariants.{alike}
 use Rattle.elab_clauses.specs.Members.{with_member, member_formulas, member_mine, has_fixed_set, struct_of, numbered_struct}
@@ -30,7 +30,11 @@ module _ (k : Numbering) (a : Around) where
 
   one_left : (r : Several) (y : Member) (ys : List Member) → left r (y ∷ ys) ≡ left (with_member k a r y) ys
   one_left r (i.Field f) ys = refl
-  one_left r (i.Invariant x) ys = alike (sym (append_assoc r.specs (said k a r.next x.property ∷ []) (struct_invariants k a (r.next + formulas x.property) (invariants_of ys)).specs)) (omega arith)
+  one_left r (i.Invariant x) ys = by (is_approval x.property)
+    where
+      by : (b : Bool) → appended r (struct_invariants k a r.next (if b then invariants_of ys else x ∷ invariants_of ys)) ≡ left (if b then r else pushed r (typed_said k a r.next x.property)) ys
+      by true = refl
+      by false = alike (sym (append_assoc r.specs (said k a r.next x.property ∷ []) (struct_invariants k a (r.next + formulas x.property) (invariants_of ys)).specs)) (omega arith)
 
   pub member_added : (xs : List m.Member) (i : ℕ) (x : m.Member) → i < length xs → x ≡ get_or xs i x → (r s total : Several) → s ≡ with_member k a r (view.member x) → left r (map view.member (drop i xs)) ≡ total → left s (map view.member (drop (i + 1) xs)) ≡ total
   member_added xs i x lt is r s total e g =
@@ -48,7 +52,13 @@ module _ (k : Numbering) (a : Around) where
 
 mine_step : (a : Around) (n : ℕ) (y : Member) (ys : List Member) → each_invariant (mine a) n (invariants_of (y ∷ ys)) ≡ member_mine a n y ++ each_invariant (mine a) (n + member_formulas y) (invariants_of ys)
 mine_step a n (i.Field f) ys = ap (λ k. each_invariant (mine a) k (invariants_of ys)) (omega arith)
-mine_step a n (i.Invariant x) ys = refl
+mine_step a n (i.Invariant x) ys = by (is_approval x.property)
+  where
+    by : (b : Bool)
+        → each_invariant (mine a) n (if b then invariants_of ys else x ∷ invariants_of ys)
+        ≡ (if b then [] else mine a n x.property) ++ each_invariant (mine a) (n + (if b then 0 else formulas x.property)) (invariants_of ys)
+    by true = ap (λ k. each_invariant (mine a) k (invariants_of ys)) (omega arith)
+    by false = refl
 
 pub mine_law : {X : Type 0} (f : t.Spec → X) (a : Around) (n : ℕ) (y : Member) (ys : List Member)
     → map f (each_invariant (mine a) n (invariants_of (y ∷ ys))) ≡ map f (member_mine a n y) ++ map f (each_invariant (mine a) (n + member_formulas y) (invariants_of ys))

@@ -7,6 +7,7 @@ ghost use Rattle.typing_symbols.specs.Whole.{program};
 ghost use Rattle.typed_program.specs.Tables as tables;
 ghost use Rattle.typed_program.specs.Views as seen;
 
+use crate::approvals::is_approved;
 use c_syntax::expressions::Identifier;
 use c_syntax::items::{FieldDeclaration, Struct};
 use elab_code::numbers::{declared_type, struct_number};
@@ -39,7 +40,7 @@ fn field(
         ty,
         is_volatile: x.is_volatile,
         is_ghost: x.is_ghost,
-        is_approved: false,
+        is_approved: is_approved(owner, &x.name),
     })
 }
 

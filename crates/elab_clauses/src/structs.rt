@@ -19,6 +19,7 @@ ghost use Rattle.typed_program.specs.Tables as tables;
 ghost use Rattle.typed_program.specs.Views as seen;
 ghost use Rattle.elab_clauses.specs.Typing as spec;
 
+use crate::approvals::has_approval;
 use crate::fields::text;
 use crate::numbering::{Numbering, said};
 use c_syntax::items::Member;
@@ -33,6 +34,7 @@ use elab_shapes::sorts::Sorts;
 use method::program::{Shape, Sort, Spec, StructInfo};
 use std::alloc::{AllocError, Global};
 use typing_expressions::context::{Context, InProperty, Quantified, Scope, Text};
+use typing_expressions::forms::is_approval;
 use typing_symbols::declarations::{Declarations, StructEntry};
 use typing_symbols::variables::Variables;
 
@@ -69,7 +71,7 @@ pub fn around_struct<'v, 'a>(
     }
 }
 
-/// A struct's invariants, with the one of a member.
+/// A struct's invariants, with the one of a member; an approval is none.
 fn with_member<'s, 'a>(
     alloc: Global,
     around: Around<'s, 'a>,
@@ -82,6 +84,9 @@ fn with_member<'s, 'a>(
     match x {
         Member::Field(_) => Ok(so_far),
         Member::Invariant(invariant) => {
+            if is_approval(&invariant.property) {
+                return Ok(so_far);
+            }
             let one = said(alloc, around, numbering, so_far.next, &invariant.property)?;
             let more = so_far.with(one)?;
             Ok(more)
@@ -136,6 +141,9 @@ fn add_mine<'s, 'a>(
     match x {
         Member::Field(_) => Ok(()),
         Member::Invariant(invariant) => {
+            if is_approval(&invariant.property) {
+                return Ok(());
+            }
             let owned = mine(alloc, around, first, &invariant.property)?;
             add_numbered(alloc, numbering, &owned, so_far)?;
             Ok(())
@@ -143,13 +151,19 @@ fn add_mine<'s, 'a>(
     }
 }
 
-/// The number behind the formulas of a member.
-fn behind_member(first: u32, x: &Member) -> Result<u32, AllocError>
+/// The number behind the formulas of what a member says.
+pub fn behind_member(first: u32, x: &Member) -> Result<u32, AllocError>
     ensures { IfOk result (λ n. n ≡ first + members.member_formulas (view.member x.now)) }
 {
     match x {
         Member::Field(_) => Ok(first),
-        Member::Invariant(invariant) => next_formula(first, &invariant.property),
+        Member::Invariant(invariant) => {
+            if is_approval(&invariant.property) {
+                Ok(first)
+            } else {
+                next_formula(first, &invariant.property)
+            }
+        }
     }
 }
 
@@ -231,7 +245,7 @@ fn info_of(
         first_field,
         fields,
         invariants,
-        has_approval: false,
+        has_approval: has_approval(entry.tree),
         mine,
     }
 }

@@ -395,9 +395,10 @@ pub fn typed_code<'s, 'a>(
         Tree::Status(_, _, _, _) => Ok(other(around, x)),
         Tree::Owns(_, _, _) => Ok(other(around, x)),
         Tree::Apply(_, _, _) => Ok(other(around, x)),
-        Tree::Mine(_, _) => Ok(other(around, x)),
+        Tree::Several(_, _, _) => Ok(other(around, x)),
         Tree::ClaimsObject(_, _, _) => Ok(other(around, x)),
         Tree::Claims(_, _, _) => Ok(other(around, x)),
+        Tree::Approves(_, _) => Ok(other(around, x)),
         Tree::Quantified(_, _, _, _, _) => Ok(other(around, x)),
     }
 }

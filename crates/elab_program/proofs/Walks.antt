@@ -1,12 +1,13 @@
 -- A program item by item.
-use Rattle.std.proofs.Common.{◌≡◌, ℕ, ◌+◌, ◌<◌, ◌≤◌, List, [], ◌∷◌, ◌++◌, length, take, drop, get_or, map, refl, sym, ap, ◌∙◌, arith, append_assoc}
+use Rattle.std.proofs.Common.{◌≡◌, ℕ, ◌+◌, ◌<◌, ◌≤◌, Bool, true, false, if◌then◌else◌, List, [], ◌∷◌, ◌++◌, length, take, drop, get_or, map, refl, sym, ap, ◌∙◌, arith, append_assoc}
 use Rattle.std.specs.Prelude.{flat_map}
 use Rattle.std.proofs.lemmas.List.{map-append, length-map, take-append-drop}
 use Rattle.c_syntax.specs.Items as i
 use Rattle.c_syntax.specs.Items.{Item, StructTree, Member}
-use Rattle.typing_spec.specs.Declarations.{structs}
+use Rattle.typing_spec.specs.Declarations.{structs, is_approval}
 use Rattle.elab_shapes.proofs.Rows.{drop_at}
 use Rattle.elab_clauses.specs.Members.{member_formulas}
+use Rattle.typed_program.specs.Annotations.{formulas, spec}
 use Rattle.typed_program.specs.Numbers.{Around}
 use Rattle.typed_program.specs.Shapes.{Sorts}
 use Rattle.typed_program.specs.Sites.{Occurrence, Says, Makes}
@@ -61,7 +62,13 @@ structs_more (i.Function b ∷ bs) x = structs_more bs x
 
 pub member_law : (a : Around) (n : ℕ) (y : Member) (ys : List Member) → members_occurrences a n (y ∷ ys) ≡ member_occurrences a n y ++ members_occurrences a (n + member_formulas y) ys
 member_law a n (i.Field f) ys = ap (λ k. members_occurrences a k ys) (omega arith)
-member_law a n (i.Invariant x) ys = refl
+member_law a n (i.Invariant x) ys = by (is_approval x.property)
+  where
+    by : (b : Bool)
+        → map Says (tables.each_invariant (λ k y. spec a k y ∷ []) n (if b then tables.invariants_of ys else x ∷ tables.invariants_of ys))
+        ≡ (if b then [] else Says (spec a n x.property) ∷ []) ++ members_occurrences a (n + (if b then 0 else formulas x.property)) ys
+    by true = ap (λ k. members_occurrences a k ys) (omega arith)
+    by false = refl
 
 -- ---- what each item adds
 
@@ -117,7 +124,13 @@ first_added see old new all e f = f ∙ ap (λ xs. map see xs ++ all) e
 
 pub members_counted : (y : Member) (ys : List Member) → tables.struct_formulas (tables.invariants_of (y ∷ ys)) ≡ member_formulas y + tables.struct_formulas (tables.invariants_of ys)
 members_counted (i.Field f) ys = omega arith
-members_counted (i.Invariant x) ys = refl
+members_counted (i.Invariant x) ys = by (is_approval x.property)
+  where
+    by : (b : Bool)
+        → tables.struct_formulas (if b then tables.invariants_of ys else x ∷ tables.invariants_of ys)
+        ≡ (if b then 0 else formulas x.property) + tables.struct_formulas (tables.invariants_of ys)
+    by true = omega arith
+    by false = refl
 
 pub from_nothing : (n : ℕ) → 0 + n ≡ n
 from_nothing n = omega arith

@@ -1,7 +1,8 @@
 -- A program item by item: what each adds to the tables. Own.
-use Rattle.std.specs.Prelude.{ℕ, ◌+◌, List, [], ◌∷◌, ◌++◌, map, flat_map, get_or}
+use Rattle.std.specs.Prelude.{ℕ, ◌+◌, if◌then◌else◌, List, [], ◌∷◌, ◌++◌, map, flat_map, get_or}
 use Rattle.c_syntax.specs.Items as i
 use Rattle.c_syntax.specs.Items.{FunctionTree, StructTree, Item, Member}
+use Rattle.typing_spec.specs.Declarations.{is_approval}
 use Rattle.method.specs.declared.program.Item.TheVariants as m
 use Rattle.method.specs.declared.program.Item as places
 use Rattle.typed_program.specs.Annotations.{spec}
@@ -30,10 +31,10 @@ functions_after n (i.Function h) = n + 1
 
 -- ---- what is told
 
--- what a member of a struct says. Own
+-- what a member of a struct says, if it is no approval. Own
 abbrev pub member_occurrences : Around → ℕ → Member → List Occurrence
 member_occurrences a n (i.Field f) = []
-member_occurrences a n (i.Invariant x) = Says (spec a n x.property) ∷ []
+member_occurrences a n (i.Invariant x) = if is_approval x.property then [] else Says (spec a n x.property) ∷ []
 
 -- what a struct's invariants say, whose first quantified formula has this number. Own
 abbrev pub members_occurrences : Around → ℕ → List Member → List Occurrence

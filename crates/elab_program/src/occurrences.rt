@@ -26,6 +26,7 @@ use elab_sites::sites::Occurrence;
 use elab_statements::settings::Setting;
 use std::alloc::{AllocError, Global};
 use typing_expressions::context::Quantified;
+use typing_expressions::forms::is_approval;
 use typing_symbols::declarations::{Declarations, StructEntry};
 use typing_symbols::variables::Variables;
 
@@ -154,7 +155,13 @@ fn member_occurrences<'s, 'a>(
 {
     match x {
         Member::Field(_) => Ok(first),
-        Member::Invariant(invariant) => { says(alloc, around, first, &invariant.property, so_far) }
+        Member::Invariant(invariant) => {
+            if is_approval(&invariant.property) {
+                Ok(first)
+            } else {
+                says(alloc, around, first, &invariant.property, so_far)
+            }
+        }
     }
 }
 

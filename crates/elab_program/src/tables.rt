@@ -4,7 +4,6 @@ ghost use Rattle.std.specs.Prelude.{◌≡◌, ◌+◌, ◌++◌, [], map, lengt
 ghost use Rattle.c_syntax.specs.Items as trees;
 ghost use Rattle.c_syntax.specs.Views as view;
 ghost use Rattle.typing_spec.specs.Declarations.{functions};
-ghost use Rattle.elab_clauses.specs.Members.{member_formulas};
 ghost use Rattle.typing_symbols.specs.Whole.{program};
 ghost use Rattle.elab_program.specs.Views.{declared};
 ghost use Rattle.elab_program.specs.Walks as spec;
@@ -21,10 +20,9 @@ use crate::shapes::next_function;
 use c_syntax::expressions::Identifier;
 use c_syntax::items::{Function, Member};
 use c_syntax::token::Span;
-use elab_annotations::counts::next_formula;
 use elab_assignments::counters::Counters;
 use elab_clauses::contracts::behind_contract;
-use elab_clauses::structs::struct_info;
+use elab_clauses::structs::{behind_member, struct_info};
 use elab_code::numbers::function_number;
 use elab_shapes::numbered::table_shape;
 use elab_statements::counts::{behind_some, behind_statements};
@@ -37,16 +35,6 @@ use typing_symbols::declarations::Declarations;
 pub struct Tables {
     pub structs: Vec<StructInfo>,
     pub functions: Vec<FunctionInfo>,
-}
-
-/// The number behind the formulas of a member of a struct.
-fn behind_member(first: u32, x: &Member) -> Result<u32, AllocError>
-    ensures { IfOk result (λ n. n ≡ first + member_formulas (view.member x.now)) }
-{
-    match x {
-        Member::Field(_) => Ok(first),
-        Member::Invariant(invariant) => next_formula(first, &invariant.property),
-    }
 }
 
 /// The number behind the formulas of a struct's members.

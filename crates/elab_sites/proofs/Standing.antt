@@ -33,9 +33,10 @@ mutual
   by_text n m h (e.Binary p o x y) = either (by_text n m h x) (by_text n m h y)
   by_text n m h (e.Conditional p x y z) = either (by_text n m h x) (either (by_text n m h y) (by_text n m h z))
   by_text n m h (e.Apply p g x) = by_text n m h x
-  by_text n m h (e.Mine p xs) = any_by_text n m h xs
+  by_text n m h (e.Several p w xs) = any_by_text n m h xs
   by_text n m h (e.ClaimsObject p x y) = either (by_text n m h x) (by_text n m h y)
   by_text n m h (e.Claims p x y) = either (by_text n m h x) (by_text n m h y)
+  by_text n m h (e.Approves p x) = refl
   by_text n m h (e.Quantified p k ty x y) = bound (ap (λ (w : List ℕ). bytes_eq w x.name) h) (by_text n m h y)
 
   any_by_text : (n m : Id) → n.name ≡ m.name → (xs : Exps) → any_mentions n xs ≡ any_mentions m xs

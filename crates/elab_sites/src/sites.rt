@@ -102,6 +102,7 @@ fn type_of_claimed(
             Ok(DeclaredType::Pointer(n))
         }
         Some(Kind::Claim) => Ok(DeclaredType::Claim),
+        Some(Kind::Null) => Ok(DeclaredType::Pointer(0)),
         _ => Ok(DeclaredType::Object),
     }
 }

@@ -30,9 +30,10 @@ no_owns (e.Unary a b c) = refl
 no_owns (e.Binary a b c d) = refl
 no_owns (e.Conditional a b c d) = refl
 no_owns (e.Apply a b c) = refl
-no_owns (e.Mine a b) = refl
+no_owns (e.Several a b c) = refl
 no_owns (e.ClaimsObject a b c) = refl
 no_owns (e.Claims a b c) = refl
+no_owns (e.Approves a b) = refl
 no_owns (e.Quantified a b c d h) = refl
 
 or_false : (b : Bool) → (b || false) ≡ b

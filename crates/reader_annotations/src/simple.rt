@@ -39,9 +39,10 @@ pub fn first_place(value: &Expr) -> Span
         Expr::Binary(_, _, left, _) => first_place(left),
         Expr::Conditional(_, left, _, _) => first_place(left),
         Expr::Apply(span, _, _) => *span,
-        Expr::Mine(span, _) => *span,
+        Expr::Several(span, _, _) => *span,
         Expr::ClaimsObject(span, _, _) => *span,
         Expr::Claims(span, _, _) => *span,
+        Expr::Approves(span, _) => *span,
         Expr::Quantified(span, _, _, _, _) => *span,
     }
 }

@@ -12,6 +12,8 @@ use Rattle.c_syntax.specs.declared.tree.Constant.{Constant}
 use Rattle.c_syntax.specs.declared.tree.Constant.TheVariants as constants
 use Rattle.c_syntax.specs.declared.tree.SpecFunction.{SpecFunction}
 use Rattle.c_syntax.specs.declared.tree.SpecFunction.TheVariants as functions
+use Rattle.c_syntax.specs.declared.tree.ListWord.{ListWord}
+use Rattle.c_syntax.specs.declared.tree.ListWord.TheVariants as lists
 use Rattle.c_syntax.specs.declared.tree.Quantifier.{Quantifier}
 use Rattle.c_syntax.specs.declared.tree.Quantifier.TheVariants as quantifiers
 use Rattle.c_syntax.specs.declared.tree.UnaryOperator.{UnaryOperator}
@@ -31,7 +33,7 @@ use Rattle.reader_expressions.specs.Reading.{part, rule_at}
 use Rattle.reader_expressions.specs.Levels.{mode_of, level, top, unary_class, unary, arrow, linked}
 use Rattle.reader_expressions.specs.Suffixes.{climbed}
 use Rattle.reader_expressions.specs.Forms as forms
-use Rattle.reader_expressions.specs.Forms.{rule_of, form_low, is_quantifier, class_of, constant_class, function_class, pair_class, quantifier_class}
+use Rattle.reader_expressions.specs.Forms.{rule_of, form_low, is_quantifier, class_of, constant_class, function_class, list_class, pair_class, quantifier_class}
 
 pub brackets : (m : Mode) (room : ℕ) (ts : List Lexeme) → read language (reads language room) room (g.in_brackets (mode_of m)) ts ≡ on language (reads language room (level m (top m)) ts) (λ x i rest. Ok (x, i, rest))
 unfolding read
@@ -63,13 +65,16 @@ module _ {A : Type 0} where
 pub fits_one : (room : ℕ) → nat_le 1 (suc room) ≡ true
 fits_one room = true_le 1 (suc room) (omega arith)
 
-pub fits_two : (room : ℕ) (b : Bool) → nat_le 1 room ≡ b → nat_le 2 (suc room) ≡ b
-fits_two room true h = true_le 2 (suc room) (omega (arith, le_true 1 room h))
-fits_two room false h = go (nat_le 2 (suc room)) refl
+pub fits_suc : (n room : ℕ) (b : Bool) → nat_le n room ≡ b → nat_le (suc n) (suc room) ≡ b
+fits_suc n room true h = true_le (suc n) (suc room) (omega (arith, le_true n room h))
+fits_suc n room false h = go (nat_le (suc n) (suc room)) refl
   where
-    go : (x : Bool) → nat_le 2 (suc room) ≡ x → x ≡ false
-    go true e = let a : 2 ≤ suc room = le_true 2 (suc room) e in absurd (true_not_false _ (true_le 1 room (omega arith)) h)
+    go : (x : Bool) → nat_le (suc n) (suc room) ≡ x → x ≡ false
+    go true e = let a : suc n ≤ suc room = le_true (suc n) (suc room) e in absurd (true_not_false _ (true_le n room (omega arith)) h)
     go false e = refl
+
+pub fits_two : (room : ℕ) (b : Bool) → nat_le 1 room ≡ b → nat_le 2 (suc room) ≡ b
+fits_two room b h = fits_suc 1 room b h
 
 -- ---- primaries
 
@@ -87,7 +92,7 @@ unfolding first_rule first is_empty
 other_forms c none = go (has (first_rule language (pick g.spec_word g.quantifier)) c) refl
   where
     fs : List Form
-    fs = f.Constant constants.True ∷ f.Constant constants.False ∷ f.Constant constants.This ∷ f.Constant constants.Me ∷ f.Constant constants.Result ∷ f.Function functions.Old ∷ f.Function functions.Unchanged ∷ f.Function functions.Wrapped ∷ f.Function functions.WrappedUnclaimed ∷ f.Function functions.Mutable ∷ f.Function functions.Fresh ∷ f.Mine ∷ f.Pair pairs.ClaimsObject ∷ f.Pair pairs.Claims ∷ f.Quantifier quantifiers.ForAll ∷ f.Quantifier quantifiers.Exists ∷ []
+    fs = f.Constant constants.True ∷ f.Constant constants.False ∷ f.Constant constants.This ∷ f.Constant constants.Me ∷ f.Constant constants.Result ∷ f.Function functions.Old ∷ f.Function functions.Unchanged ∷ f.Function functions.Wrapped ∷ f.Function functions.WrappedUnclaimed ∷ f.Function functions.Mutable ∷ f.Function functions.Fresh ∷ f.Several lists.Mine ∷ f.Several lists.ClaimsOnly ∷ f.Pair pairs.ClaimsObject ∷ f.Pair pairs.Claims ∷ f.Approval ∷ f.Quantifier quantifiers.ForAll ∷ f.Quantifier quantifiers.Exists ∷ []
 
     one_of : (fs : List Form) → has (map class_of fs) c ≡ true → ⊥
     one_of [] h = true_not_false _ h refl
@@ -161,13 +166,15 @@ form_function_in functions.Fresh room ts false h e = rw e (rw (fits_one room) (r
 pub form_function : (x : SpecFunction) (room : ℕ) (ts : List Lexeme) → next language ts ≡ function_class x → rule_at room (g.primary g.InSpec) ts ≡ entered_rule room (forms.apply x) ts
 form_function x room ts e = form_function_in x room ts (nat_le 1 room) refl e
 
-form_mine_in : (room : ℕ) (ts : List Lexeme) (b : Bool) → nat_le 1 room ≡ b → next language ts ≡ class_of f.Mine → rule_at room (g.primary g.InSpec) ts ≡ entered_rule room (forms.mine) ts
+form_several_in : (x : ListWord) (room : ℕ) (ts : List Lexeme) (b : Bool) → nat_le 1 room ≡ b → next language ts ≡ list_class x → rule_at room (g.primary g.InSpec) ts ≡ entered_rule room (forms.several x) ts
 unfolding read_rule first_rule first low_rule low is_empty
-form_mine_in room ts true h e = rw e (rw (fits_one room) (rw (fits_two room true h) (rw h refl)))
-form_mine_in room ts false h e = rw e (rw (fits_one room) (rw (fits_two room false h) (rw h refl)))
+form_several_in lists.Mine room ts true h e = rw e (rw (fits_one room) (rw (fits_two room true h) (rw h refl)))
+form_several_in lists.Mine room ts false h e = rw e (rw (fits_one room) (rw (fits_two room false h) (rw h refl)))
+form_several_in lists.ClaimsOnly room ts true h e = rw e (rw (fits_one room) (rw (fits_two room true h) (rw h refl)))
+form_several_in lists.ClaimsOnly room ts false h e = rw e (rw (fits_one room) (rw (fits_two room false h) (rw h refl)))
 
-pub form_mine : (room : ℕ) (ts : List Lexeme) → next language ts ≡ class_of f.Mine → rule_at room (g.primary g.InSpec) ts ≡ entered_rule room (forms.mine) ts
-form_mine room ts e = form_mine_in room ts (nat_le 1 room) refl e
+pub form_several : (x : ListWord) (room : ℕ) (ts : List Lexeme) → next language ts ≡ list_class x → rule_at room (g.primary g.InSpec) ts ≡ entered_rule room (forms.several x) ts
+form_several x room ts e = form_several_in x room ts (nat_le 1 room) refl e
 
 form_pair_in : (x : Pair) (room : ℕ) (ts : List Lexeme) (b : Bool) → nat_le 1 room ≡ b → next language ts ≡ pair_class x → rule_at room (g.primary g.InSpec) ts ≡ entered_rule room (forms.paired x) ts
 unfolding read_rule first_rule first low_rule low is_empty
@@ -178,6 +185,19 @@ form_pair_in pairs.Claims room ts false h e = rw e (rw (fits_one room) (rw (fits
 
 pub form_pair : (x : Pair) (room : ℕ) (ts : List Lexeme) → next language ts ≡ pair_class x → rule_at room (g.primary g.InSpec) ts ≡ entered_rule room (forms.paired x) ts
 form_pair x room ts e = form_pair_in x room ts (nat_le 1 room) refl e
+
+abbrev three_high : ℕ → List Lexeme → Out language Exp
+three_high room ts = cond (nat_le 2 room) (rule_at room forms.approval ts) (Err (TooDeep, ts))
+
+form_approval_in : (room : ℕ) (ts : List Lexeme) (a b : Bool) → nat_le 1 room ≡ a → nat_le 2 room ≡ b → next language ts ≡ class_of f.Approval → rule_at room (g.primary g.InSpec) ts ≡ three_high room ts
+unfolding read_rule first_rule first low_rule low is_empty
+form_approval_in room ts true true h k e = rw e (rw (fits_one room) (rw (fits_two room true h) (rw (fits_suc 2 room true k) (rw k refl))))
+form_approval_in room ts true false h k e = rw e (rw (fits_one room) (rw (fits_two room true h) (rw (fits_suc 2 room false k) (rw k refl))))
+form_approval_in room ts false true h k e = let a : 2 ≤ room = le_true 2 room k in absurd (true_not_false _ (true_le 1 room (omega arith)) h)
+form_approval_in room ts false false h k e = rw e (rw (fits_one room) (rw (fits_two room false h) (rw k refl)))
+
+pub form_approval : (room : ℕ) (ts : List Lexeme) → next language ts ≡ class_of f.Approval → rule_at room (g.primary g.InSpec) ts ≡ three_high room ts
+form_approval room ts e = form_approval_in room ts (nat_le 1 room) (nat_le 2 room) refl refl e
 
 form_quantifier_in : (x : Quantifier) (room : ℕ) (ts : List Lexeme) (b : Bool) → nat_le 1 room ≡ b → next language ts ≡ quantifier_class x → rule_at room (g.primary g.InSpec) ts ≡ entered_rule room (forms.quantified x) ts
 unfolding read_rule first_rule first low_rule low is_empty
@@ -236,9 +256,11 @@ set_form (f.Function functions.Wrapped) room ts q e = rw e (rw (fits_one room) r
 set_form (f.Function functions.WrappedUnclaimed) room ts q e = rw e (rw (fits_one room) refl)
 set_form (f.Function functions.Mutable) room ts q e = rw e (rw (fits_one room) refl)
 set_form (f.Function functions.Fresh) room ts q e = rw e (rw (fits_one room) refl)
-set_form f.Mine room ts q e = rw e (rw (fits_one room) refl)
+set_form (f.Several lists.Mine) room ts q e = rw e (rw (fits_one room) refl)
+set_form (f.Several lists.ClaimsOnly) room ts q e = rw e (rw (fits_one room) refl)
 set_form (f.Pair pairs.ClaimsObject) room ts q e = rw e (rw (fits_one room) refl)
 set_form (f.Pair pairs.Claims) room ts q e = rw e (rw (fits_one room) refl)
+set_form f.Approval room ts q e = rw e (rw (fits_one room) refl)
 set_form (f.Quantifier x) room ts q e = absurd (true_not_false _ refl q)
 
 pub set_other : (room : ℕ) (ts : List Lexeme) → (next language ts == 1) ≡ false → has (first_rule language g.spec_word) (next language ts) ≡ false → rule_at room g.set_primary ts ≡ rule_at room (g.unnamed g.InSpec) ts
@@ -255,8 +277,9 @@ quantifier_first (f.Quantifier quantifiers.ForAll) c h e = rw e refl
 quantifier_first (f.Quantifier quantifiers.Exists) c h e = rw e refl
 quantifier_first (f.Constant x) c h e = absurd (true_not_false _ h refl)
 quantifier_first (f.Function x) c h e = absurd (true_not_false _ h refl)
-quantifier_first f.Mine c h e = absurd (true_not_false _ h refl)
+quantifier_first (f.Several x) c h e = absurd (true_not_false _ h refl)
 quantifier_first (f.Pair x) c h e = absurd (true_not_false _ h refl)
+quantifier_first f.Approval c h e = absurd (true_not_false _ h refl)
 
 pub no_form_first : (c : ℕ) → ((f : Form) → c ≢ class_of f) → has (first_rule language g.spec_word) c ≡ false
 unfolding first_rule
@@ -269,8 +292,9 @@ constant_any x room ts = refl
 pub form_read : (x : Form) (room : ℕ) (ts : List Lexeme) → next language ts ≡ class_of x → rule_at room (g.primary g.InSpec) ts ≡ cond (nat_le (form_low x) room) (rule_at room (rule_of x) ts) (Err (TooDeep, ts))
 form_read (f.Constant x) room ts e = form_constant x room ts e ∙ constant_any x room ts ∙ rw (true_le 0 room (omega arith)) refl
 form_read (f.Function x) room ts e = form_function x room ts e
-form_read f.Mine room ts e = form_mine room ts e
+form_read (f.Several x) room ts e = form_several x room ts e
 form_read (f.Pair x) room ts e = form_pair x room ts e
+form_read f.Approval room ts e = form_approval room ts e
 form_read (f.Quantifier x) room ts e = form_quantifier x room ts e
 
 pub form_fits : (x : Form) (room : ℕ) (ts : List Lexeme) → next language ts ≡ class_of x → nat_le (form_low x) room ≡ true → rule_at room (g.primary g.InSpec) ts ≡ rule_at room (rule_of x) ts
@@ -278,6 +302,10 @@ form_fits x room ts e h = form_read x room ts e ∙ rw h refl
 
 pub form_high : (x : Form) (room : ℕ) (ts : List Lexeme) → next language ts ≡ class_of x → nat_le (form_low x) room ≡ false → rule_at room (g.primary g.InSpec) ts ≡ Err (TooDeep, ts)
 form_high x room ts e h = form_read x room ts e ∙ rw h refl
+
+pub approval_rule : (room : ℕ) (ts : List Lexeme) → rule_at room forms.approval ts ≡ rule_at 0 forms.approval ts
+unfolding read_rule read
+approval_rule room ts = refl
 
 pub constant_rule : (x : Constant) (room : ℕ) (ts : List Lexeme) → rule_at room (forms.constant x) ts ≡ rule_at 0 (forms.constant x) ts
 constant_rule x room ts = sym (constant_any x room ts)

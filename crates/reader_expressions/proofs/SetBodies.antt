@@ -17,17 +17,7 @@ use Rattle.reader_expressions.specs.Levels.{arrow, joined, one_link, linked, mem
 use Rattle.reader_expressions.specs.Forms.{quantifier_class}
 use Rattle.reader_expressions.specs.Joints.{following, quantified}
 use Rattle.reader_expressions.specs.declared.joints.Joint.TheVariants as j
-use Rattle.reader_expressions.proofs.Primaries.{fits_one, pick_none, reads_rule}
-
--- ---- room
-
-fits_suc : (n room : ℕ) (b : Bool) → nat_le n room ≡ b → nat_le (suc n) (suc room) ≡ b
-fits_suc n room true h = true_le (suc n) (suc room) (omega (arith, le_true n room h))
-fits_suc n room false h = go (nat_le (suc n) (suc room)) refl
-  where
-    go : (x : Bool) → nat_le (suc n) (suc room) ≡ x → x ≡ false
-    go true e = let a : suc n ≤ suc room = le_true (suc n) (suc room) e in absurd (true_not_false _ (true_le n room (omega arith)) h)
-    go false e = refl
+use Rattle.reader_expressions.proofs.Primaries.{fits_one, fits_suc, pick_none, reads_rule}
 
 -- ---- which rule
 

@@ -40,6 +40,17 @@ status_read c x ts = go (take language c ts)
 pub status_ok : (c : ℕ) (x : Status) (ts rest : List Lexeme) (p : Span) (k : ℕ) → one_token c 0 (λ y. y.place) ts ≡ Ok (p, k, rest) → k ≡ 0 → part 0 (g.status c x) ts ≡ Ok ((λ o l. e.State o l p x), 0, rest)
 status_ok c x ts rest p k read flat = status_read c x ts ∙ ap (λ o. on language o (λ p i rest. Ok ((λ o l. e.State o l p x), i, rest))) read ∙ ap (λ i. Ok ((λ o l. e.State o l p x), i, rest)) flat
 
+-- a token that counts as so high
+pub token_high : (c k : ℕ) (ts : List Lexeme) → one_token c k (λ y. y.place) ts ≡ on language (one_token c 0 (λ y. y.place) ts) (λ p i rest. Ok (p, k, rest))
+token_high c k ts = go (take language c ts)
+  where
+    go : (out : Out language Lexeme) → on language {A = Lexeme} {B = Span} out (λ y i rest. Ok (y.place, k, rest)) ≡ on language {A = Span} {B = Span} (on language out (λ y i rest. Ok (y.place, 0, rest))) (λ p i rest. Ok (p, k, rest))
+    go (Ok p) = refl
+    go (Err q) = refl
+
+pub high_ok : (c k : ℕ) (ts rest : List Lexeme) (p : Span) (i : ℕ) → one_token c 0 (λ y. y.place) ts ≡ Ok (p, i, rest) → one_token c k (λ y. y.place) ts ≡ Ok (p, k, rest)
+high_ok c k ts rest p i read = token_high c k ts ∙ ap (λ o. on language o (λ p i rest. Ok (p, k, rest))) read
+
 abbrev pub place : Span → Span
 place p = p
 

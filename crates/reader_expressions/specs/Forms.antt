@@ -8,6 +8,8 @@ use Rattle.c_syntax.specs.declared.tree.Constant.{Constant}
 use Rattle.c_syntax.specs.declared.tree.Constant.TheVariants as constants
 use Rattle.c_syntax.specs.declared.tree.SpecFunction.{SpecFunction}
 use Rattle.c_syntax.specs.declared.tree.SpecFunction.TheVariants as functions
+use Rattle.c_syntax.specs.declared.tree.ListWord.{ListWord}
+use Rattle.c_syntax.specs.declared.tree.ListWord.TheVariants as lists
 use Rattle.c_syntax.specs.declared.tree.Quantifier.{Quantifier}
 use Rattle.c_syntax.specs.declared.tree.Quantifier.TheVariants as quantifiers
 use Rattle.c_syntax.specs.Classes.{sign, spec}
@@ -43,6 +45,10 @@ argument_tier functions.WrappedUnclaimed = g.Choice
 argument_tier functions.Mutable = g.Choice
 argument_tier functions.Fresh = g.Choice
 
+abbrev pub list_class : ListWord → ℕ
+list_class lists.Mine = spec w.Mine
+list_class lists.ClaimsOnly = spec w.ClaimsOnly
+
 abbrev pub pair_class : Pair → ℕ
 pair_class pairs.ClaimsObject = spec w.ClaimsObject
 pair_class pairs.Claims = spec w.Claims
@@ -63,8 +69,9 @@ quantifier_class quantifiers.Exists = spec w.Exists
 abbrev pub class_of : Form → ℕ
 class_of (f.Constant x) = constant_class x
 class_of (f.Function x) = function_class x
-class_of f.Mine = spec w.Mine
+class_of (f.Several x) = list_class x
 class_of (f.Pair x) = pair_class x
+class_of f.Approval = spec w.Approves
 class_of (f.Quantifier x) = quantifier_class x
 
 -- an expression of an annotation, of this level
@@ -77,11 +84,14 @@ constant x = g.constant (constant_class x) x
 abbrev pub apply : SpecFunction → R Exp
 apply x = g.apply (function_class x) x (at_level (argument_tier x))
 
-abbrev pub mine : R Exp
-mine = form (word (spec w.Mine) ▷ inside (g.list g.spec_exp) ▷ nothing (λ xs o. e.Mine o (g.exps_of xs)))
+abbrev pub several : ListWord → R Exp
+several x = g.several (list_class x) x
 
 abbrev pub paired : Pair → R Exp
 paired x = form (word (pair_class x) ▷ g.two g.spec_exp (at_level (second_tier x)) (pair_of x))
+
+abbrev pub approval : R Exp
+approval = form (word (spec w.Approves) ▷ word (sign s.Open) ▷ g.this_owner ▷ word (sign s.Comma) ▷ g.name ▷ word (sign s.Close) ▷ nothing (λ c x m o b p. e.Approves p x))
 
 abbrev pub quantified : Quantifier → R Exp
 quantified q = g.quantified (quantifier_class q) q
@@ -90,16 +100,18 @@ quantified q = g.quantified (quantifier_class q) q
 abbrev pub rule_of : Form → R Exp
 rule_of (f.Constant x) = constant x
 rule_of (f.Function x) = apply x
-rule_of f.Mine = mine
+rule_of (f.Several x) = several x
 rule_of (f.Pair x) = paired x
+rule_of f.Approval = approval
 rule_of (f.Quantifier x) = quantified x
 
 -- how high what stands in a form is at least
 abbrev pub form_low : Form → ℕ
 form_low (f.Constant x) = 0
 form_low (f.Function x) = 1
-form_low f.Mine = 1
+form_low (f.Several x) = 1
 form_low (f.Pair x) = 1
+form_low f.Approval = 2
 form_low (f.Quantifier x) = 1
 
 abbrev pub is_quantifier : Form → Bool

@@ -15,24 +15,27 @@ ghost use Rattle.reader_expressions.specs.Lists.{behind_comma};
 ghost use Rattle.reader_expressions.specs.Operands as operands;
 ghost use Rattle.reader_expressions.specs.Reading.{Gives, lexemes, part, rule_at, extended, entered};
 
+use crate::approvals::approval;
 use crate::arrows::{arrows, climb, first_arrow};
 use crate::forms::{
-    Form, Pair, argument_tier, form_at, joined, least, mine_of, second_tier, set_form_at,
+    Form, Pair, argument_tier, form_at, joined, least, second_tier, set_form_at, several_of,
 };
 use crate::joints::{Joint, least_behind, next_joins, quantifier_at};
-use crate::leaves::{constant, named, null, number, take_function, take_pair, take_quantifier};
+use crate::leaves::{
+    constant, named, null, number, take_function, take_list_word, take_pair, take_quantifier,
+};
 use crate::levels::{Mode, Tier, below, is_link, is_prefix, operator_at, right, top};
 use crate::memory::{add, boxed, single};
 use crate::operands::{Operand, following};
 use crate::reading::{Parsed, ReadFault, Reading, fits};
 use crate::tokens::{
     next_is, next_is_key, next_is_name, next_is_number, next_is_spec, take, take_name,
-    take_operator, take_spec, take_unary,
+    take_operator, take_unary,
 };
 use crate::types::boxed_gtype;
 use c_syntax::expressions::Expr;
 use c_syntax::token::{Keyword, Sign, SpecWord, Token};
-use c_syntax::tree::{BinaryOperator, Quantifier, SpecFunction, UnaryOperator};
+use c_syntax::tree::{BinaryOperator, ListWord, Quantifier, SpecFunction, UnaryOperator};
 use std::alloc::Global;
 
 /// An expression of this level, no higher than room.
@@ -370,8 +373,9 @@ fn worded<'a>(alloc: Global, form: Form, room: u32, tokens: &'a [Token<'a>]) -> 
     match form {
         Form::Constant(value) => constant(value, tokens),
         Form::Function(function) => apply(alloc, function, room, tokens),
-        Form::Mine => mine(alloc, room, tokens),
+        Form::Several(word) => several(alloc, word, room, tokens),
         Form::Pair(pair) => paired(alloc, pair, room, tokens),
+        Form::Approval => approval(alloc, tokens),
         Form::Quantifier(quantifier) => {
             let body = Operand::Level(Mode::Spec, Tier::Equivalence);
             quantified(alloc, quantifier, body, room, tokens)
@@ -432,20 +436,25 @@ fn paired<'a>(alloc: Global, pair: Pair, room: u32, tokens: &'a [Token<'a>]) -> 
     })
 }
 
-/// `\mine` and its arguments.
+/// A list's word and its arguments.
 #[cycle(expressions)]
 #[tactic(auto, unfolding(ebnf::specs::Reading::read, ebnf::specs::Reading::read_rule))]
-fn mine<'a>(alloc: Global, room: u32, tokens: &'a [Token<'a>]) -> Reading<'a, Expr>
+fn several<'a>(
+    alloc: Global,
+    list_word: ListWord,
+    room: u32,
+    tokens: &'a [Token<'a>],
+) -> Reading<'a, Expr>
     requires room { room < 1000 }
-    ensures gives { Gives exp result (rule_at room forms.mine (lexemes tokens.now)) }
+    ensures gives { Gives exp result (rule_at room (forms.several list_word) (lexemes tokens.now)) }
     ensures low { IfOk result (λ x. x.height ≤ room + 1) }
 {
-    let word = take_spec(SpecWord::Mine, tokens)?;
+    let word = take_list_word(list_word, tokens)?;
     let open = take(Sign::Open, word.rest)?;
     let all = list(alloc, Mode::Spec, Tier::Choice, room, open.rest)?;
     let close = take(Sign::Close, all.rest)?;
     Ok(Parsed {
-        value: mine_of(word.value, all.value),
+        value: several_of(list_word, word.value, all.value),
         height: all.height + 1,
         rest: close.rest,
     })

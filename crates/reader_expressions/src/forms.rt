@@ -17,7 +17,7 @@ ghost use Rattle.reader_expressions.specs.Reading.{lexemes};
 use crate::levels::Tier;
 use c_syntax::expressions::Expr;
 use c_syntax::token::{Span, SpecWord, Token, TokenKind};
-use c_syntax::tree::{Constant, Quantifier, SpecFunction};
+use c_syntax::tree::{Constant, ListWord, Quantifier, SpecFunction};
 
 /// A word of two arguments.
 #[derive(Clone, Copy)]
@@ -31,8 +31,9 @@ pub enum Pair {
 pub enum Form {
     Constant(Constant),
     Function(SpecFunction),
-    Mine,
+    Several(ListWord),
     Pair(Pair),
+    Approval,
     Quantifier(Quantifier),
 }
 
@@ -52,9 +53,11 @@ fn of_word(word: SpecWord) -> Option<Form>
         SpecWord::WrappedUnclaimed => Some(Form::Function(SpecFunction::WrappedUnclaimed)),
         SpecWord::Mutable => Some(Form::Function(SpecFunction::Mutable)),
         SpecWord::Fresh => Some(Form::Function(SpecFunction::Fresh)),
-        SpecWord::Mine => Some(Form::Mine),
+        SpecWord::Mine => Some(Form::Several(ListWord::Mine)),
+        SpecWord::ClaimsOnly => Some(Form::Several(ListWord::ClaimsOnly)),
         SpecWord::ClaimsObject => Some(Form::Pair(Pair::ClaimsObject)),
         SpecWord::Claims => Some(Form::Pair(Pair::Claims)),
+        SpecWord::Approves => Some(Form::Approval),
         SpecWord::Forall => Some(Form::Quantifier(Quantifier::ForAll)),
         SpecWord::Exists => Some(Form::Quantifier(Quantifier::Exists)),
         _ => None,
@@ -111,6 +114,7 @@ pub fn least(form: Form) -> u32
 {
     match form {
         Form::Constant(_) => 0,
+        Form::Approval => 2,
         _ => 1,
     }
 }
@@ -182,11 +186,21 @@ pub fn joined(pair: Pair, span: Span, first: Box<Expr>, second: Box<Expr>) -> Ex
     }
 }
 
-/// `\mine` with its arguments.
-pub fn mine_of(span: Span, all: Vec<Expr>) -> Expr
-    ensures { exp result ≡ e.Mine span (g.exps_of (exps all.items)) }
+/// The word of a list.
+pub fn word_of_list(word: ListWord) -> SpecWord
+    ensures { classes.spec result ≡ forms.list_class word }
 {
-    Expr::Mine(span, all)
+    match word {
+        ListWord::Mine => SpecWord::Mine,
+        ListWord::ClaimsOnly => SpecWord::ClaimsOnly,
+    }
+}
+
+/// A list's word with its arguments.
+pub fn several_of(word: ListWord, span: Span, all: Vec<Expr>) -> Expr
+    ensures { exp result ≡ e.Several span word (g.exps_of (exps all.items)) }
+{
+    Expr::Several(span, word, all)
 }
 
 /// The word of a quantifier.

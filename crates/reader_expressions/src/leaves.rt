@@ -8,12 +8,14 @@ ghost use Rattle.c_syntax.specs.Views.{exp};
 ghost use Rattle.reader_expressions.specs.Forms as forms;
 ghost use Rattle.reader_expressions.specs.Reading.{Gives, lexemes, one_token, rule_at};
 
-use crate::forms::{Pair, word_of_constant, word_of_function, word_of_pair, word_of_quantifier};
+use crate::forms::{
+    Pair, word_of_constant, word_of_function, word_of_list, word_of_pair, word_of_quantifier,
+};
 use crate::reading::{Parsed, ReadFault, Reading};
 use crate::tokens::{take_key, take_name, take_spec};
 use c_syntax::expressions::Expr;
 use c_syntax::token::{Keyword, Span, Token, TokenKind};
-use c_syntax::tree::{Constant, Quantifier, SpecFunction};
+use c_syntax::tree::{Constant, ListWord, Quantifier, SpecFunction};
 use std::alloc::Global;
 
 /// A name.
@@ -93,6 +95,14 @@ pub fn take_function<'a>(function: SpecFunction, tokens: &'a [Token<'a>]) -> Rea
     ensures flat { IfOk result (λ x. x.height ≡ 0) }
 {
     take_spec(word_of_function(function), tokens)
+}
+
+/// The place of the word of a list.
+pub fn take_list_word<'a>(word: ListWord, tokens: &'a [Token<'a>]) -> Reading<'a, Span>
+    ensures gives { Gives (λ x. x) result (one_token (forms.list_class word) 0 (λ x. x.place) (lexemes tokens.now)) }
+    ensures flat { IfOk result (λ x. x.height ≡ 0) }
+{
+    take_spec(word_of_list(word), tokens)
 }
 
 /// The place of the word of two arguments.

@@ -1,6 +1,7 @@
 //! The reader of sources in the whole language, by recursive descent: one function for each row of the grammar.
 #![tactic(auto)]
 
+pub mod approvals;
 pub mod arrows;
 pub mod expressions;
 pub mod forms;

@@ -5,6 +5,7 @@ use Rattle.ebnf.specs.Sets.{has, first}
 use Rattle.ebnf.specs.Tools.{true_not_false, or_cases, eq_true, has_left, has_either}
 use Rattle.c_syntax.specs.declared.tree.Constant.TheVariants as constants
 use Rattle.c_syntax.specs.declared.tree.SpecFunction.TheVariants as functions
+use Rattle.c_syntax.specs.declared.tree.ListWord.TheVariants as lists
 use Rattle.c_syntax.specs.declared.tree.Quantifier.TheVariants as quantifiers
 use Rattle.c_syntax.specs.Language.{language}
 use Rattle.c_syntax.specs.Grammar as g
@@ -15,7 +16,7 @@ use Rattle.reader_expressions.specs.Forms.{class_of}
 
 -- all forms of a word
 abbrev forms : List Form
-forms = f.Constant constants.True ∷ f.Constant constants.False ∷ f.Constant constants.This ∷ f.Constant constants.Me ∷ f.Constant constants.Result ∷ f.Function functions.Old ∷ f.Function functions.Unchanged ∷ f.Function functions.Wrapped ∷ f.Function functions.WrappedUnclaimed ∷ f.Function functions.Mutable ∷ f.Function functions.Fresh ∷ f.Mine ∷ f.Pair pairs.ClaimsObject ∷ f.Pair pairs.Claims ∷ f.Quantifier quantifiers.ForAll ∷ f.Quantifier quantifiers.Exists ∷ []
+forms = f.Constant constants.True ∷ f.Constant constants.False ∷ f.Constant constants.This ∷ f.Constant constants.Me ∷ f.Constant constants.Result ∷ f.Function functions.Old ∷ f.Function functions.Unchanged ∷ f.Function functions.Wrapped ∷ f.Function functions.WrappedUnclaimed ∷ f.Function functions.Mutable ∷ f.Function functions.Fresh ∷ f.Several lists.Mine ∷ f.Several lists.ClaimsOnly ∷ f.Pair pairs.ClaimsObject ∷ f.Pair pairs.Claims ∷ f.Approval ∷ f.Quantifier quantifiers.ForAll ∷ f.Quantifier quantifiers.Exists ∷ []
 
 -- what begins code, and then the forms' words
 all_begin : first language g.whole_spec ≡ first language g.code ++ map class_of forms
@@ -40,9 +41,11 @@ form_begins (f.Function functions.Wrapped) c e = rw e refl
 form_begins (f.Function functions.WrappedUnclaimed) c e = rw e refl
 form_begins (f.Function functions.Mutable) c e = rw e refl
 form_begins (f.Function functions.Fresh) c e = rw e refl
-form_begins f.Mine c e = rw e refl
+form_begins (f.Several lists.Mine) c e = rw e refl
+form_begins (f.Several lists.ClaimsOnly) c e = rw e refl
 form_begins (f.Pair pairs.ClaimsObject) c e = rw e refl
 form_begins (f.Pair pairs.Claims) c e = rw e refl
+form_begins f.Approval c e = rw e refl
 form_begins (f.Quantifier quantifiers.ForAll) c e = rw e refl
 form_begins (f.Quantifier quantifiers.Exists) c e = rw e refl
 

@@ -14,18 +14,10 @@ use Rattle.c_syntax.specs.Language.{language}
 use Rattle.c_syntax.specs.Statements.{Stm}
 use Rattle.c_syntax.specs.Grammar as g
 use Rattle.reader_expressions.specs.Reading.{rule_at}
-use Rattle.reader_expressions.proofs.Primaries.{fits_one, pick_none}
+use Rattle.reader_expressions.proofs.Primaries.{fits_one, fits_suc, pick_none}
 use Rattle.reader_statements.specs.declared.kinds.Kind.{Kind}
 use Rattle.reader_statements.specs.declared.kinds.Kind.TheVariants as kinds
 use Rattle.reader_statements.specs.Rows.{rule_of, all, kind_low, kind_begins, block, skip, declaration, named, other, branch, while_loop, do_loop, for_loop, return_, spawn, free}
-
-fits_suc : (n room : ℕ) (b : Bool) → nat_le n room ≡ b → nat_le (suc n) (suc room) ≡ b
-fits_suc n room true h = true_le (suc n) (suc room) (omega (arith, le_true n room h))
-fits_suc n room false h = go (nat_le (suc n) (suc room)) refl
-  where
-    go : (x : Bool) → nat_le (suc n) (suc room) ≡ x → x ≡ false
-    go true e = let a : suc n ≤ suc room = le_true (suc n) (suc room) e in absurd (true_not_false _ (true_le n room (omega arith)) h)
-    go false e = refl
 
 abbrev pub every_kind : List Kind
 every_kind = kinds.Block ∷ kinds.Skip ∷ kinds.Declaration ∷ kinds.Named ∷ kinds.Other ∷ kinds.Branch ∷ kinds.While ∷ kinds.Do ∷ kinds.For ∷ kinds.Return ∷ kinds.Spawn ∷ kinds.Free ∷ []

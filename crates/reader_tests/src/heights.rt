@@ -119,6 +119,13 @@ fn list(rt: &impl Abort, alloc: Global, x: Expr) -> Vec<Expr>
     single(rt, alloc, x)
 }
 
+/// `\approves(\this->\owner, a)`
+fn approval(alloc: Global) -> Expr
+    ensures { p.expression (view.exp result) ≡ 3 }
+{
+    Expr::Approves(AT, id(alloc))
+}
+
 /// one statement as a list
 fn lines(rt: &impl Abort, alloc: Global, x: Stmt) -> Vec<Stmt>
     ensures { p.statements (view.stms result.items) ≡ 1 + p.statement (view.stm x) }
@@ -281,11 +288,11 @@ fn contract(rt: &impl Abort, alloc: Global) -> Tree
     source(rt, alloc, clauses, Stmt::Skip(AT))
 }
 
-/// `struct a { _(invariant (a)) };`
-fn structure(rt: &impl Abort, alloc: Global) -> Tree
+/// `struct a { _(invariant x) };`
+fn structure(rt: &impl Abort, alloc: Global, property: Expr) -> Tree
+    requires { p.expression (view.exp property) < 100 }
     ensures { p.parts (view.items_of result) < 1000 }
 {
-    let property = group(rt, alloc, name(alloc));
     let member = Member::Invariant(Invariant { span: AT, property });
     let members = single(rt, alloc, member);
     let item = Item::Struct(Struct {
@@ -331,6 +338,8 @@ fn heights(rt: HostRuntime) {
     is_high(&rt, "repeated", repeated(&rt, alloc), 6);
     is_high(&rt, "owned", owned(&rt, alloc), 6);
     is_high(&rt, "contract", contract(&rt, alloc), 5);
-    is_high(&rt, "structure", structure(&rt, alloc), 4);
+    let property = group(&rt, alloc, name(alloc));
+    is_high(&rt, "structure", structure(&rt, alloc, property), 4);
+    is_high(&rt, "approval", structure(&rt, alloc, approval(alloc)), 5);
     height_laws();
 }

@@ -5,7 +5,8 @@ use Piece::{Binary, Each, Function, Name, Number, Text, Tree, Type, Unary};
 use c_syntax::expressions::{Expr, Identifier, ValueType};
 use c_syntax::token::Span;
 use c_syntax::tree::{
-    Attribute, BinaryOperator, Condition, Constant, Quantifier, SpecFunction, Status, UnaryOperator,
+    Attribute, BinaryOperator, Condition, Constant, ListWord, Quantifier, SpecFunction, Status,
+    UnaryOperator,
 };
 use int_ranges::ctype::CType;
 use std::alloc::AllocError;
@@ -25,6 +26,7 @@ pub enum Piece<'a> {
     Unary(UnaryOperator),
     Binary(BinaryOperator),
     Function(SpecFunction),
+    ListWord(ListWord),
     Quantifier(Quantifier),
     Condition(Condition),
     Attribute(Attribute),
@@ -65,6 +67,7 @@ fn write_first<'a>(
         Unary(operator) => write_word(text, &operator),
         Binary(operator) => write_word(text, &operator),
         Function(function) => write_word(text, &function),
+        Piece::ListWord(word) => write_word(text, &word),
         Piece::Quantifier(quantifier) => write_word(text, &quantifier),
         Piece::Condition(condition) => write_word(text, &condition),
         Piece::Attribute(attribute) => write_word(text, &attribute),
@@ -154,13 +157,14 @@ fn put_expr<'a>(stack: &mut Vec<Piece<'a>>, expr: &'a Expr) -> Result<(), AllocE
         Expr::Apply(_, function, argument) => {
             put_form(stack, Function(*function), &[Tree(argument)])
         }
-        Expr::Mine(_, all) => put_form(stack, Text("mine"), &[Each(all)]),
+        Expr::Several(_, word, all) => put_form(stack, Piece::ListWord(*word), &[Each(all)]),
         Expr::ClaimsObject(_, claim, object) => {
             put_form(stack, Text("claims_object"), &[Tree(claim), Tree(object)])
         }
         Expr::Claims(_, claim, property) => {
             put_form(stack, Text("claims"), &[Tree(claim), Tree(property)])
         }
+        Expr::Approves(_, field) => put_form(stack, Text("approves"), &[Name(field)]),
         Expr::Quantified(_, quantifier, ty, name, body) => put_form(
             stack,
             Piece::Quantifier(*quantifier),

@@ -145,6 +145,18 @@ const HIGH: &[Source<Program>] = &[
     ),
     (Program, 3, "void f() _(requires a) { }", "too deep 1:10"),
     (Program, 3, "struct s { _(invariant a) };", "too deep 1:14"),
+    (
+        Program,
+        5,
+        "struct s { _(invariant \\approves(\\this->\\owner, a)) };",
+        "too deep 1:24",
+    ),
+    (
+        Program,
+        6,
+        "struct s { _(invariant \\approves(\\this->\\owner, a)) };",
+        "6 1:55; struct s 1:1 { invariant 1:12 ? }",
+    ),
     (Program, 0, "5", "too deep 1:1"),
     (Program, 1, "5", "too deep 1:1"),
     (Program, 2, "5", "unexpected 1:1"),

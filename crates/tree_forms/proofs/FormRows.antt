@@ -15,6 +15,7 @@ use Rattle.c_syntax.specs.declared.tree.BinaryOperator.TheVariants as op
 use Rattle.c_syntax.specs.declared.tree.Constant.{Constant}
 use Rattle.c_syntax.specs.declared.tree.Status.{Status}
 use Rattle.c_syntax.specs.declared.tree.SpecFunction.{SpecFunction}
+use Rattle.c_syntax.specs.declared.tree.ListWord.{ListWord}
 use Rattle.c_syntax.specs.declared.tree.UnaryOperator.{UnaryOperator}
 use Rattle.c_syntax.specs.declared.tree.Quantifier.{Quantifier}
 use Rattle.c_syntax.specs.declared.tree.Condition.{Condition}
@@ -300,13 +301,20 @@ constant class x = a_form (token_is (λ y o. refl))
 apply : {p : PartOf language Exp} (class : ℕ) (h : SpecFunction) → Part_is p is_spec → Rule_is (gr.apply class h p) is_spec
 apply class h k = a_form (word_then (λ o. part_then (inside_is k) (λ x d. ends d)))
 
+several : (class : ℕ) (w : ListWord) → Rule_is (gr.several class w) is_spec
+several class w = a_form (word_then (λ o. part_then (inside_is (list_is {v = is_spec} spec_exp)) (λ xs d. ends (exps_are xs d))))
+
+this_owner : Has gr.this_owner Any
+this_owner = word_then (λ o. word_then (λ a. word_then (λ t. ends tt)))
+
 spec_word : Rule_is gr.spec_word is_spec
 spec_word =
     a_pick (constant _ _) (a_pick (constant _ _) (a_pick (constant _ _) (a_pick (constant _ _) (a_pick (constant _ _)
     (a_pick (apply _ _ whole_spec) (a_pick (apply _ _ whole_spec) (a_pick (apply _ _ spec_exp) (a_pick (apply _ _ spec_exp) (a_pick (apply _ _ spec_exp) (a_pick (apply _ _ spec_exp)
-    (a_pick (a_form (word_then (λ o. part_then (inside_is (list_is {v = is_spec} spec_exp)) (λ xs d. ends (exps_are xs d)))))
+    (a_pick (several _ _) (a_pick (several _ _)
     (a_pick (a_form (word_then (λ o. word_then (λ a. part_then spec_exp (λ x d. word_then (λ c. part_then spec_exp (λ y h. word_then (λ b. ends (pair d h)))))))))
-    (a_form (word_then (λ o. word_then (λ a. part_then spec_exp (λ x d. word_then (λ c. part_then whole_spec (λ y h. word_then (λ b. ends (pair d h)))))))))))))))))))))
+    (a_pick (a_form (word_then (λ o. word_then (λ a. part_then spec_exp (λ x d. word_then (λ c. part_then whole_spec (λ y h. word_then (λ b. ends (pair d h)))))))))
+    (a_form (word_then (λ o. word_then (λ a. part_then this_owner (λ x d. word_then (λ m. word_then (λ n. word_then (λ c. ends refl))))))))))))))))))))))
 
 quantified : (class : ℕ) (q : Quantifier) → Rule_is (gr.quantified class q) is_spec
 quantified class q = a_form (word_then (λ o. part_then gtype (λ ty i. word_then (λ n. word_then (λ m. part_then whole_spec (λ x d. ends d))))))

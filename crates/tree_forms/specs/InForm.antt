@@ -53,9 +53,10 @@ abbrev mutual
   is_spec (e.Binary p o x y) = is_spec x && is_spec y
   is_spec (e.Conditional p x y z) = is_spec x && (is_spec y && is_spec z)
   is_spec (e.Apply p h x) = is_spec x
-  is_spec (e.Mine p xs) = are_specs xs
+  is_spec (e.Several p w xs) = are_specs xs
   is_spec (e.ClaimsObject p x y) = is_spec x && is_spec y
   is_spec (e.Claims p x y) = is_spec x && is_spec y
+  is_spec (e.Approves p x) = true
   is_spec (e.Quantified p k ty x y) = is_spec y
 
   pub are_specs : Exps → Bool

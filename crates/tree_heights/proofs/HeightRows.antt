@@ -13,6 +13,7 @@ use Rattle.c_syntax.specs.declared.tree.BinaryOperator.TheVariants as op
 use Rattle.c_syntax.specs.declared.tree.Constant.{Constant}
 use Rattle.c_syntax.specs.declared.tree.Status.{Status}
 use Rattle.c_syntax.specs.declared.tree.SpecFunction.{SpecFunction}
+use Rattle.c_syntax.specs.declared.tree.ListWord.{ListWord}
 use Rattle.c_syntax.specs.declared.tree.Quantifier.{Quantifier}
 use Rattle.c_syntax.specs.declared.tree.Condition.{Condition}
 use Rattle.c_syntax.specs.Ghosts.{GStm}
@@ -126,9 +127,10 @@ some (e.Unary p o x) = omega arith
 some (e.Binary p o x y) = omega arith
 some (e.Conditional p x y z) = omega arith
 some (e.Apply p f x) = omega arith
-some (e.Mine p xs) = omega arith
+some (e.Several p w xs) = omega arith
 some (e.ClaimsObject p x y) = omega arith
 some (e.Claims p x y) = omega arith
+some (e.Approves p x) = omega arith
 some (e.Quantified p q ty n x) = omega arith
 
 number_is : (p : Span) (w : Word) → expression (gr.number_exp p w) ≡ 1
@@ -241,13 +243,20 @@ constant class x = a_form (token_is (λ y. refl))
 apply : {p : PartOf language Exp} (class : ℕ) (f : SpecFunction) → Part_is p expression → Rule_is (gr.apply class f p) expression
 apply class f k = a_form (word_then (λ o. part_then (inside_is k) (λ x i d. ends (omega arith))))
 
+several : (class : ℕ) (w : ListWord) → Rule_is (gr.several class w) expression
+several class w = a_form (word_then (λ o. part_then (inside_is (list_is spec_exp)) (λ xs i d. ends (omega (arith, exps_is xs)))))
+
+this_owner : Has gr.this_owner (λ x i. i ≡ 2)
+this_owner = word_then (λ o. word_then (λ a. word_then (λ t. ends refl)))
+
 spec_word : Rule_is gr.spec_word expression
 spec_word =
     a_pick (constant _ _) (a_pick (constant _ _) (a_pick (constant _ _) (a_pick (constant _ _) (a_pick (constant _ _)
     (a_pick (apply _ _ whole_spec) (a_pick (apply _ _ whole_spec) (a_pick (apply _ _ spec_exp) (a_pick (apply _ _ spec_exp) (a_pick (apply _ _ spec_exp) (a_pick (apply _ _ spec_exp)
-    (a_pick (a_form (word_then (λ o. part_then (inside_is (list_is spec_exp)) (λ xs i d. ends (omega (arith, exps_is xs))))))
+    (a_pick (several _ _) (a_pick (several _ _)
     (a_pick (a_form (word_then (λ o. word_then (λ a. part_then spec_exp (λ x i d. word_then (λ c. part_then spec_exp (λ y j f. word_then (λ b. ends (omega arith)))))))))
-    (a_form (word_then (λ o. word_then (λ a. part_then spec_exp (λ x i d. word_then (λ c. part_then whole_spec (λ y j f. word_then (λ b. ends (omega arith)))))))))))))))))))))
+    (a_pick (a_form (word_then (λ o. word_then (λ a. part_then spec_exp (λ x i d. word_then (λ c. part_then whole_spec (λ y j f. word_then (λ b. ends (omega arith)))))))))
+    (a_form (word_then (λ o. word_then (λ a. part_then this_owner (λ x i d. word_then (λ m. word_then (λ n. word_then (λ c. ends (omega arith)))))))))))))))))))))))
 
 quantified : (class : ℕ) (q : Quantifier) → Rule_is (gr.quantified class q) expression
 quantified class q = a_form (word_then (λ o. part_then gtype (λ ty i d. word_then (λ n. word_then (λ m. part_then whole_spec (λ x j f. ends (omega (arith, some x))))))))
@@ -501,9 +510,10 @@ open_name (e.Unary p o x) t = absurd cc
 open_name (e.Binary p o x y) t = absurd cc
 open_name (e.Conditional p x y z) t = absurd cc
 open_name (e.Apply p f x) t = absurd cc
-open_name (e.Mine p xs) t = absurd cc
+open_name (e.Several p w xs) t = absurd cc
 open_name (e.ClaimsObject p x y) t = absurd cc
 open_name (e.Claims p x y) t = absurd cc
+open_name (e.Approves p x) t = absurd cc
 open_name (e.Quantified p q ty n x) t = absurd cc
 
 bare_one : (x : Pending) → gr.is_bare x ≡ true → pending x ≡ 1
@@ -616,9 +626,10 @@ name_one (e.Unary p o x) t = absurd cc
 name_one (e.Binary p o x y) t = absurd cc
 name_one (e.Conditional p x y z) t = absurd cc
 name_one (e.Apply p f x) t = absurd cc
-name_one (e.Mine p xs) t = absurd cc
+name_one (e.Several p w xs) t = absurd cc
 name_one (e.ClaimsObject p x y) t = absurd cc
 name_one (e.Claims p x y) t = absurd cc
+name_one (e.Approves p x) t = absurd cc
 name_one (e.Quantified p q ty n x) t = absurd cc
 
 if_is : (p : Span) (x : Exp) (a : Stm) (b : Option Stm) → h.statement (gr.if_of p x a b) ≡ suc (max (expression x) (max (h.statement a) (optional h.statement b)))

@@ -12,6 +12,7 @@ use Rattle.c_syntax.specs.declared.tree.BinaryOperator.TheVariants as op
 use Rattle.c_syntax.specs.declared.tree.Constant.{Constant}
 use Rattle.c_syntax.specs.declared.tree.Status.{Status}
 use Rattle.c_syntax.specs.declared.tree.SpecFunction.{SpecFunction}
+use Rattle.c_syntax.specs.declared.tree.ListWord.{ListWord}
 use Rattle.c_syntax.specs.declared.tree.Quantifier.{Quantifier}
 use Rattle.c_syntax.specs.declared.tree.Condition.{Condition}
 use Rattle.c_syntax.specs.Ghosts.{GStm}
@@ -239,13 +240,20 @@ constant class x = a_form (token_is (λ y. omega arith))
 apply : {p : PartOf language Exp} (class : ℕ) (f : SpecFunction) → Part_is p expression → Rule_is (gr.apply class f p) expression
 apply class f k = a_form (word_then (λ o. part_then (inside_is k) (λ x i d. ends (omega arith))))
 
+several : (class : ℕ) (w : ListWord) → Rule_is (gr.several class w) expression
+several class w = a_form (word_then (λ o. part_then (inside_is (list_is {v = element} spec_element)) (λ xs i d. ends (omega (arith, exps_is xs)))))
+
+this_owner : Has gr.this_owner (λ x i. 0 ≤ i)
+this_owner = word_then (λ o. word_then (λ a. word_then (λ t. ends (omega arith))))
+
 spec_word : Rule_is gr.spec_word expression
 spec_word =
     a_pick (constant _ _) (a_pick (constant _ _) (a_pick (constant _ _) (a_pick (constant _ _) (a_pick (constant _ _)
     (a_pick (apply _ _ whole_spec) (a_pick (apply _ _ whole_spec) (a_pick (apply _ _ spec_exp) (a_pick (apply _ _ spec_exp) (a_pick (apply _ _ spec_exp) (a_pick (apply _ _ spec_exp)
-    (a_pick (a_form (word_then (λ o. part_then (inside_is (list_is {v = element} spec_element)) (λ xs i d. ends (omega (arith, exps_is xs))))))
+    (a_pick (several _ _) (a_pick (several _ _)
     (a_pick (a_form (word_then (λ o. word_then (λ a. part_then spec_exp (λ x i d. word_then (λ c. part_then spec_exp (λ y j f. word_then (λ b. ends (omega arith)))))))))
-    (a_form (word_then (λ o. word_then (λ a. part_then spec_exp (λ x i d. word_then (λ c. part_then whole_spec (λ y j f. word_then (λ b. ends (omega arith)))))))))))))))))))))
+    (a_pick (a_form (word_then (λ o. word_then (λ a. part_then spec_exp (λ x i d. word_then (λ c. part_then whole_spec (λ y j f. word_then (λ b. ends (omega arith)))))))))
+    (a_form (word_then (λ o. word_then (λ a. part_then this_owner (λ x i d. word_then (λ m. word_then (λ n. word_then (λ c. ends (omega arith)))))))))))))))))))))))
 
 quantified : (class : ℕ) (q : Quantifier) → Rule_is (gr.quantified class q) expression
 quantified class q = a_form (word_then (λ o. part_then gtype (λ ty i d. word_then (λ n. word_then (λ m. part_then whole_spec (λ x j f. ends (omega (arith, type_two ty.1))))))))

@@ -3,6 +3,7 @@ use Rattle.std.proofs.Common.{◌≡◌, suc, ◌+◌, max, List, [], ◌∷◌,
 use Rattle.std.specs.declared.alloc.Global.{Global}
 use mathlib.Core.Former.{Count}
 use Rattle.c_syntax.specs.declared.token.Span.{Span}
+use Rattle.c_syntax.specs.declared.tree.ListWord.{ListWord}
 use Rattle.c_syntax.specs.declared.expressions.Expr as x
 use Rattle.c_syntax.specs.declared.ghosts.GhostStmt as gs
 use Rattle.c_syntax.specs.declared.statements.Stmt as s
@@ -18,23 +19,23 @@ row_parts : (n : _) (all : x.Row_of-Expr n) → p.expressions (row all) ≡ p.al
 row_parts n x.end_of-Expr = refl
 row_parts n (x.more_of-Expr a rest) = omega (arith, row_parts _ rest)
 
-abbrev mine_row : x.Expr → (n : Count) × x.Row_of-Expr n
-mine_row (x.Mine' o n all) = (_, all)
-mine_row _ = (_, x.end_of-Expr)
+abbrev list_row : x.Expr → (n : Count) × x.Row_of-Expr n
+list_row (x.Several' o w n all) = (_, all)
+list_row _ = (_, x.end_of-Expr)
 
-pub mine_high : (span : Span) (all : Vec x.Expr Global) → h.expression (exp (x.Mine span all)) ≡ suc (h.greatest h.expression (exps all.items))
-mine_high span all =
-    let r = mine_row (x.Mine span all) in
+pub several_high : (span : Span) (w : ListWord) (all : Vec x.Expr Global) → h.expression (exp (x.Several span w all)) ≡ suc (h.greatest h.expression (exps all.items))
+several_high span w all =
+    let r = list_row (x.Several span w all) in
     ap suc (row_high r.0 r.1 ∙ ap (λ (xs : List x.Expr). h.greatest h.expression (exps xs)) (x.items_hidden-the_row-Expr-0 all))
 
-pub mine_parts : (span : Span) (all : Vec x.Expr Global) → p.expression (exp (x.Mine span all)) ≡ 1 + p.all p.expression (exps all.items)
-mine_parts span all =
-    let r = mine_row (x.Mine span all) in
+pub several_parts : (span : Span) (w : ListWord) (all : Vec x.Expr Global) → p.expression (exp (x.Several span w all)) ≡ 1 + p.all p.expression (exps all.items)
+several_parts span w all =
+    let r = list_row (x.Several span w all) in
     ap (λ i. 1 + i) (row_parts r.0 r.1 ∙ ap (λ (xs : List x.Expr). p.all p.expression (exps xs)) (x.items_hidden-the_row-Expr-0 all))
 
-pub mine : (a : x.Expr) (span : Span) (all : Vec x.Expr Global) (items : List x.Expr) → a ≡ x.Mine span all → items ≡ all.items → (h.expression (exp a) ≡ suc (h.greatest h.expression (exps items))) × (p.expression (exp a) ≡ 1 + p.all p.expression (exps items))
-mine a span all items d f =
-    (ap (λ b. h.expression (exp b)) d ∙ mine_high span all ∙ ap (λ xs. suc (h.greatest h.expression (exps xs))) (sym f), ap (λ b. p.expression (exp b)) d ∙ mine_parts span all ∙ ap (λ xs. 1 + p.all p.expression (exps xs)) (sym f))
+pub several : (a : x.Expr) (span : Span) (w : ListWord) (all : Vec x.Expr Global) (items : List x.Expr) → a ≡ x.Several span w all → items ≡ all.items → (h.expression (exp a) ≡ suc (h.greatest h.expression (exps items))) × (p.expression (exp a) ≡ 1 + p.all p.expression (exps items))
+several a span w all items d f =
+    (ap (λ b. h.expression (exp b)) d ∙ several_high span w all ∙ ap (λ xs. suc (h.greatest h.expression (exps xs))) (sym f), ap (λ b. p.expression (exp b)) d ∙ several_parts span w all ∙ ap (λ xs. 1 + p.all p.expression (exps xs)) (sym f))
 
 -- ---- ghost statements
 

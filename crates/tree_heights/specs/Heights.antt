@@ -22,7 +22,7 @@ optional high (Some x) = high x
 -- ---- expressions
 
 abbrev mutual
-  -- An expression. `NULL` and the words of a spec count as names.
+  -- An expression. `NULL` and the words of a spec count as names; the `\this->\owner` of an approval is 2 high.
   pub expression : Exp → ℕ
   expression (e.Number p n ty) = 1
   expression (e.Name x) = 1
@@ -36,9 +36,10 @@ abbrev mutual
   expression (e.Binary p o x y) = suc (max (expression x) (expression y))
   expression (e.Conditional p x y z) = suc (max (expression x) (max (expression y) (expression z)))
   expression (e.Apply p f x) = suc (expression x)
-  expression (e.Mine p xs) = suc (expressions xs)
+  expression (e.Several p w xs) = suc (expressions xs)
   expression (e.ClaimsObject p x y) = suc (max (expression x) (expression y))
   expression (e.Claims p x y) = suc (max (expression x) (expression y))
+  expression (e.Approves p x) = 3
   expression (e.Quantified p q ty n x) = suc (expression x)
 
   -- the greatest of expressions

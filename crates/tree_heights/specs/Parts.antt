@@ -1,4 +1,4 @@
--- How many parts a tree has: every constructor of a tree, every name and every element of a list counts 1.
+-- How many parts a tree has: every constructor of a tree, every name, every element of a list and the `\this->\owner` of an approval counts 1.
 use Rattle.std.specs.Prelude.{ℕ, suc, ◌+◌, List, [], ◌∷◌, Option, Some, None}
 use Rattle.c_syntax.specs.Expressions as e
 use Rattle.c_syntax.specs.Expressions.{Ty, Exp, Exps, Inter, Comparison, CallTree, Rhs, Effect, Assignment}
@@ -48,9 +48,10 @@ abbrev mutual
   expression (e.Binary p o x y) = 1 + (expression x + expression y)
   expression (e.Conditional p x y z) = 1 + (expression x + (expression y + expression z))
   expression (e.Apply p f x) = 1 + expression x
-  expression (e.Mine p xs) = 1 + expressions xs
+  expression (e.Several p w xs) = 1 + expressions xs
   expression (e.ClaimsObject p x y) = 1 + (expression x + expression y)
   expression (e.Claims p x y) = 1 + (expression x + expression y)
+  expression (e.Approves p x) = 3
   expression (e.Quantified p q ty n x) = 2 + (value_type ty + expression x)
 
   -- expressions

@@ -28,9 +28,10 @@ pub(crate) fn expression(x: &Expr) -> u32
                 .max(expression(second))
         }
         Expr::Apply(_, _, argument) => 1 + expression(argument),
-        Expr::Mine(_, arguments) => 1 + greatest_expression(arguments),
+        Expr::Several(_, _, arguments) => 1 + greatest_expression(arguments),
         Expr::ClaimsObject(_, claim, object) => 1 + expression(claim).max(expression(object)),
         Expr::Claims(_, claim, property) => 1 + expression(claim).max(expression(property)),
+        Expr::Approves(_, _) => 3,
         Expr::Quantified(_, _, _, _, body) => 1 + expression(body),
     }
 }

@@ -17,7 +17,7 @@ use Rattle.typing_spec.specs.Contexts.{Context, Variable, deeper}
 use Rattle.typing_spec.specs.Types as kd
 use Rattle.typing_spec.specs.Types.{Kind, kind_of, kind, converts, left_fits, right_fits, together_fit, comparable}
 use Rattle.typing_spec.specs.First.{places}
-use Rattle.typing_spec.specs.Values.{field_named, interlocked_kind, struct_pointer, malloc_kind, right_kind}
+use Rattle.typing_spec.specs.Values.{field_named, interlocked_kind, compared_kind, struct_pointer, malloc_kind, right_kind}
 use Rattle.typing_spec.specs.Rules as r
 use Rattle.typing_spec.specs.Pieces as pieces
 use Rattle.typing_spec.specs.Pieces.{Piece, StructName, Allocation, expression, expressions}
@@ -156,14 +156,26 @@ compared_integer kd.Claim h = absurd (true≢false h)
 compared_integer kd.OwnedSet h = absurd (true≢false h)
 compared_integer kd.Void h = absurd (true≢false h)
 
+-- so the other side of an Interlocked call's comparison is one, and with it the call gives an integer
+other_integer : (o : Setting) (vs : List Variable) (b : Bool) (c : Context) (x : Inter) (y : Comparison) → interlocked_kind (here o vs) x ≡ Some kd.Integer → ((rule : r.Rule) → places rule (pieces.Interlocked (at o vs b c) x (Some y)) ≡ []) → (l : Kind) → kind (here o vs) y.other ≡ Some l → l ≡ kd.Integer
+other_integer o vs b c x y i n l k =
+    compared_integer l (subst (λ z. misfit op.Equal (Some kd.Integer) z ≡ false) k (subst (λ z. misfit op.Equal z (kind (here o vs) y.other) ≡ false) i (not_placed _ y.place (n r.Operands))))
+
+compared_gives : (o : Setting) (vs : List Variable) → Knows o vs → (w : Context) (b : Bool) (c : Context) → IsTrue (runs c.text) → (x : Inter) (y : Option Comparison) → interlocked_kind (here o vs) x ≡ Some kd.Integer → IsTrue (if_any form.in_comparison y)
+    → Quiet (pieces.compared (at o vs b c) y) → ((rule : r.Rule) → places rule (pieces.Interlocked (at o vs b c) x y) ≡ []) → compared_kind (here o vs) (interlocked_kind (here o vs) x) y ≡ Some kd.Integer
+compared_gives o vs m w b c rn x None i f q n = i
+compared_gives o vs m w b c rn x (Some y) i f q n =
+    let v = valued o vs m w b c rn y.other f q in
+    ap (option_and_then (λ k. option_and_then (λ l. kd.only_if (kd.binary_fits op.Equal k l) kd.Integer) (kind (here o vs) y.other))) i
+    ∙ ap (option_and_then (λ l. kd.only_if (kd.binary_fits op.Equal kd.Integer l) kd.Integer)) (v.is_kind ∙ ap Some (other_integer o vs b c x y i n v.sort v.is_kind))
+
 -- what becomes of an Interlocked call's value is of the place's type
 afterwards_ok : (o : Setting) (vs : List Variable) → Knows o vs → (w : Context) (b : Bool) (c : Context) → IsTrue (runs c.text) → (ty place : CType) (x : Inter) (y : Option Comparison) → interlocked_kind (here o vs) x ≡ Some kd.Integer → IsTrue (if_any form.in_comparison y)
     → Quiet (pieces.compared (at o vs b c) y) → ((rule : r.Rule) → places rule (pieces.Interlocked (at o vs b c) x y) ≡ []) → IsTrue (test (afterwards_values o.program o.info (afterwards (around o vs w) ty place y) (all_of ty)) (λ v. fits v (d.Integer place)))
 afterwards_ok o vs m w b c rn ty place x None i f q n = fits_within place (converted_values (conversion ty place) (all_of ty)) (converted_within ty place (all_of ty) (all_within ty))
 afterwards_ok o vs m w b c rn ty place x (Some y) i f q n =
     let v = valued o vs m w b c rn y.other f q in
-    let apart : misfit op.Equal (interlocked_kind (here o vs) x) (kind (here o vs) y.other) ≡ false = not_placed _ y.place (n r.Operands) in
-    let is = compared_integer v.sort (subst (λ z. misfit op.Equal (Some kd.Integer) z ≡ false) v.is_kind (subst (λ z. misfit op.Equal z (kind (here o vs) y.other) ≡ false) i apart)) in
+    let is = other_integer o vs b c x y i n v.sort v.is_kind in
     let other = operand_of (here o vs) y.other (code (around o vs w) y.other) in
     let both = common (record { code = t.Null; is_int = true; ty = ty }) other in
     let inside : Within other.ty v.all = subst (λ z. Agrees o.items z other.ty v.all) is v.agrees in
@@ -231,7 +243,7 @@ exchanged_ok o vs m w c rn x p z g y to_type fxs fy k gives rules args compared 
 
 inter_field : (o : Setting) (vs : List Variable) → Knows o vs → (w c : Context) → IsTrue (runs c.text) → (p : Span) (fn : Interlocked) (fp : Span) (z : Exp) (g : Id) (xs : List Exp) (y : Option Comparison) → IsTrue (is_code z) → IsTrue (all_code xs) → IsTrue (if_any form.in_comparison y)
     → Quiet (pieces.right (at o vs true c) (e.Locked (record { place = p; function = fn; field = e.Field fp z g; arguments = xs }) y)) → (ty : Ty) (i : Kind) → kind_of o.items ty ≡ Some i
-    → fail_together converts (interlocked_kind (here o vs) (record { place = p; function = fn; field = e.Field fp z g; arguments = xs })) (Some i) ≡ false
+    → fail_together converts (compared_kind (here o vs) (interlocked_kind (here o vs) (record { place = p; function = fn; field = e.Field fp z g; arguments = xs })) y) (Some i) ≡ false
     → IsTrue (test (right_values o.program o.info o.number true (interlocked (around o vs w) ty (record { place = p; function = fn; field = e.Field fp z g; arguments = xs }) y)) (λ v. fits v (declared_type o.items ty)))
 inter_field o vs m w c rn p fn fp z g xs y fz fxs fy q ty i h j =
     let x : Inter = record { place = p; function = fn; field = e.Field fp z g; arguments = xs } in
@@ -246,13 +258,14 @@ inter_field o vs m w c rn p fn fp z g xs y fz fxs fy q ty i h j =
     let fault = field_is (λ f. not (is_exchangeable f)) (field_named (here o vs) x.field) in
     let k = exchanged o vs w fp z g v.sort (field_of_object o vs w fp z g v.sort inner v.is_kind) v.is_kind (neither_left fault _ calls) in
     let gives : interlocked_kind (here o vs) x ≡ Some kd.Integer = ap (option_and_then (λ u. kd.only_if (kd.is_integer u) kd.Integer)) k.of_kind in
-    let into = integer_into o.items ty i h (together converts (interlocked_kind (here o vs) x) (Some i) kd.Integer i gives refl j) in
+    let after = quiet_right (expressions c2 xs) (pieces.compared c2 y) rest in
+    let into = integer_into o.items ty i h (together converts (compared_kind (here o vs) (interlocked_kind (here o vs) x) y) (Some i) kd.Integer i (compared_gives o vs m w true c rn x y gives fy after rules) refl j) in
     subst (λ u. IsTrue (test (right_values o.program o.info o.number true (interlocked (around o vs w) u x y)) (λ v. fits v (declared_type o.items u)))) (sym into.1)
-    (exchanged_ok o vs m w c rn x fp z g y into.0 fxs fy k gives rules (quiet_left (expressions c2 xs) (pieces.compared c2 y) rest) (quiet_right (expressions c2 xs) (pieces.compared c2 y) rest) (from_not _ (neither_right fault _ calls)))
+    (exchanged_ok o vs m w c rn x fp z g y into.0 fxs fy k gives rules (quiet_left (expressions c2 xs) (pieces.compared c2 y) rest) after (from_not _ (neither_right fault _ calls)))
 
 inter_ok : (o : Setting) (vs : List Variable) → Knows o vs → (w c : Context) → IsTrue (runs c.text) → (p : Span) (fn : Interlocked) (z : Exp) (xs : List Exp) (y : Option Comparison) → IsTrue (form.is_field z) → IsTrue (all_code xs) → IsTrue (if_any form.in_comparison y)
     → Quiet (pieces.right (at o vs true c) (e.Locked (record { place = p; function = fn; field = z; arguments = xs }) y)) → (ty : Ty) (i : Kind) → kind_of o.items ty ≡ Some i
-    → fail_together converts (interlocked_kind (here o vs) (record { place = p; function = fn; field = z; arguments = xs })) (Some i) ≡ false
+    → fail_together converts (compared_kind (here o vs) (interlocked_kind (here o vs) (record { place = p; function = fn; field = z; arguments = xs })) y) (Some i) ≡ false
     → IsTrue (test (right_values o.program o.info o.number true (interlocked (around o vs w) ty (record { place = p; function = fn; field = z; arguments = xs }) y)) (λ v. fits v (declared_type o.items ty)))
 inter_ok o vs m w c rn p fn (e.Field fp z g) xs y fz fxs fy q ty i h j = inter_field o vs m w c rn p fn fp z g xs y fz fxs fy q ty i h j
 inter_ok o vs m w c rn p fn _ xs y fz fxs fy q ty i h j = absurd (true≢false (sym fz))

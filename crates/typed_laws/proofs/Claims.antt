@@ -38,12 +38,12 @@ use Rattle.typing_spec.specs.First.{IsWellTyped}
 use Rattle.typing_spec.specs.TypeLaws.{IsKnown, Quiet}
 use Rattle.typed_program.specs.Trees as t
 use Rattle.typed_program.specs.Trees.{Spec, Conjunct, Claimed, ClaimSite, VariableInfo, FunctionInfo, Shape}
-use Rattle.typed_program.specs.Numbers.{Around, place_of, reference_type, declared_type, struct_number}
+use Rattle.typed_program.specs.Numbers.{Around, place_of, declared_type, struct_number}
 use Rattle.typed_program.specs.Codes.{code, integer_type}
 use Rattle.typed_program.specs.Annotations.{property}
 use Rattle.typed_program.specs.Variables.{parameter, variables, all_declared}
 use Rattle.typed_program.specs.Shapes.{holes, conjunct, sort_of_type, same_sort}
-use Rattle.typed_program.specs.Sites.{Site, Makes, named, type_of_claimed, claimed_bare, claimed, site, all_occurrences}
+use Rattle.typed_program.specs.Sites.{Site, Makes, named, claimed_type, type_of_claimed, claimed_bare, claimed, site, all_occurrences}
 use Rattle.typed_program.specs.Tables.{around_function, variable, function_sorts, clause_occurrences, claim_site, shapes, program}
 use Rattle.tree_forms.specs.InForm as form
 use Rattle.tree_forms.specs.InForm.{is_code, all_code, is_spec, in_form, in_item}
@@ -129,9 +129,9 @@ found_is test (y ∷ ys) x h = go (test y) refl h (found_is test ys x)
 
 -- ---- where a claim is made
 
-fits_claimed : (items : List Item) (k : Kind) (c : _) (v : Values) → Agrees items k c v → not (converts k kinds.Object) ≡ false → not (may_be_claimed k) ≡ false → IsTrue (fits v (reference_type items k))
+fits_claimed : (items : List Item) (k : Kind) (c : _) (v : Values) → Agrees items k c v → not (converts k kinds.Object) ≡ false → not (may_be_claimed k) ≡ false → IsTrue (fits v (claimed_type items k))
 fits_claimed items kinds.Integer c v g h m = absurd (true≢false h)
-fits_claimed items kinds.Null c v g h m = subst (λ w. IsTrue (fits w d.Object)) (sym g) refl
+fits_claimed items kinds.Null c v g h m = subst (λ w. IsTrue (fits w (d.Pointer 0))) (sym g) refl
 fits_claimed items (kinds.Pointer s) c v g h m = subst (λ w. IsTrue (fits w (d.Pointer (struct_number items s.name)))) (sym g) (eq-eqb (struct_number items s.name) (struct_number items s.name) refl)
 fits_claimed items kinds.Object c v g h m = subst (λ w. IsTrue (fits w d.Object)) (sym g) refl
 fits_claimed items kinds.Claim c v g h m = absurd (true≢false m)
@@ -142,6 +142,7 @@ fits_claimed items kinds.Void c v g h m = absurd g
 claimed_refers : (a : Around) (o : Option Kind) → IsTrue (are_refs (declared (type_of_claimed a o)))
 claimed_refers a None = refl
 claimed_refers a (Some (kinds.Pointer s)) = refl
+claimed_refers a (Some kinds.Null) = refl
 claimed_refers a (Some kinds.Claim) = refl
 claimed_refers a (Some _) = refl
 
@@ -228,7 +229,7 @@ module _ (items : List Item) (p : t.Program) (f : FunctionInfo) (law : CodeLaw) 
       let kind_is : kind c.scope z ≡ Some r.0 = ap (λ u. kind u z) same ∙ r.2 in
       let k2 : not (converts r.0 kinds.Object) ≡ false = subst (λ o. fail_together converts o (Some kinds.Object) ≡ false) kind_is k in
       let m2 : not (may_be_claimed r.0) ≡ false = subst (λ o. fails may_be_claimed o ≡ false) kind_is m in
-      let fit : IsTrue (fits r.1 (reference_type a.context.scope.items r.0)) = subst (λ its. IsTrue (fits r.1 (reference_type its r.0))) (sym here.items_are) (fits_claimed items r.0 (integer_type a.context.scope z) r.1 r.5 k2 m2) in
+      let fit : IsTrue (fits r.1 (claimed_type a.context.scope.items r.0)) = subst (λ its. IsTrue (fits r.1 (claimed_type its r.0))) (sym here.items_are) (fits_claimed items r.0 (integer_type a.context.scope z) r.1 r.5 k2 m2) in
       and_both (test (values p f (code a z)) (λ v. fits v (type_of_claimed a (kind a.context.scope z)))) (are_refs (declared (type_of_claimed a (kind a.context.scope z))))
       (subst (λ o. IsTrue (test (values p f (code a z)) (λ v. fits v (type_of_claimed a o)))) (sym r.2) (subst (λ o. IsTrue (test o (λ v. fits v (type_of_claimed a (Some r.0))))) (sym r.4) fit)) (claimed_refers a (kind a.context.scope z))
 

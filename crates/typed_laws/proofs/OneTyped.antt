@@ -3,7 +3,7 @@ use Rattle.std.specs.Prelude.{◌≡◌, true, None, refl}
 use Rattle.c_syntax.specs.declared.token.Span.{Span}
 use Rattle.ebnf.specs.Sets.{first, first_rule, low, low_rule, is_empty}
 use Rattle.ebnf.specs.Reading.{read, links, climbs, read_rule, reads}
-use Rattle.typing_spec.specs.First.{IsWellTyped, first_broken}
+use Rattle.typing_spec.specs.First.{first_broken}
 use Rattle.typing_spec.specs.FirstLaws.{none_broken}
 use Rattle.method.specs.Trace.{Memory}
 use Rattle.typed_program.specs.Tables as tables

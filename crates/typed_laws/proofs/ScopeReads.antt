@@ -13,6 +13,7 @@ use Rattle.c_syntax.specs.declared.tree.UnaryOperator.TheVariants as unary
 use Rattle.c_syntax.specs.declared.tree.BinaryOperator.TheVariants as op
 use Rattle.c_syntax.specs.declared.tree.SpecFunction.{SpecFunction}
 use Rattle.c_syntax.specs.declared.tree.SpecFunction.TheVariants as f
+use Rattle.c_syntax.specs.declared.tree.ListWord.TheVariants as lists
 use Rattle.c_syntax.specs.declared.tree.Quantifier.TheVariants as q
 use Rattle.c_syntax.specs.Expressions as e
 use Rattle.c_syntax.specs.Expressions.{Id, Ty, Exp, Exps}
@@ -26,7 +27,7 @@ use Rattle.typed_program.specs.Trees as t
 use Rattle.typed_program.specs.Trees.{Code, Spec, Specs, Shape, ClaimSite}
 use Rattle.typed_program.specs.Numbers.{Around, Meaning, OfQuantifier, OfFunction, OwnField, meaning, meaning_at, place_of}
 use Rattle.typed_program.specs.Codes.{Binary, Computes, Compares, IsAnd, IsOr, IsImplies, IsIff, IsMember, binary, conversion, converted_by, code_name, code_unary, code_binary, Operand, in_type_of, operand_of, common, code, codes, stored_in, stored}
-use Rattle.typed_program.specs.Annotations.{formulas, spec, members, conjuncts, for_all, exists, owner, owner_first, others, append, and_all, all_hold, word, name, status, negation, joined, applied, within_quantifier, property}
+use Rattle.typed_program.specs.Annotations.{formulas, spec, members, claims_only, each_spec, conjuncts, for_all, exists, owner, owner_first, others, append, and_all, all_hold, word, name, status, negation, joined, applied, within_quantifier, property}
 use Rattle.typed_program.specs.Shapes.{Sorts, holes, all_holes, numbered, all_numbered, numbered_conjuncts}
 use Rattle.typed_laws.proofs.Basics.{and_both, and_left, and_right, every_append, same_bytes, find_passes}
 use Rattle.typed_laws.proofs.TableLists.{within}
@@ -197,15 +198,25 @@ module _ (sites : List ClaimSite) (parameters : ℕ) (is : List ℕ) where
     spec_read a h n (e.Binary p o x y) = joined_read (binary o) (spec a n x) (spec a (n + formulas x) y) (spec_read a h n x) (spec_read a h (n + formulas x) y)
     spec_read a h n (e.Conditional p x y z) = and_both _ _ (spec_read a h n x) (and_both _ _ (spec_read a h (n + formulas x) y) (spec_read a h (n + (formulas x + formulas y)) z))
     spec_read a h n (e.Apply p o x) = applied_read o (spec a n x) (spec_read a h n x)
-    spec_read a h n (e.Mine p xs) = all_hold_read (members a n xs) (members_read a h n xs)
+    spec_read a h n (e.Several p lists.Mine xs) = all_hold_read (members a n xs) (members_read a h n xs)
+    spec_read a h n (e.Several p lists.ClaimsOnly xs) = claims_read a h n xs
     spec_read a h n (e.ClaimsObject p x y) = and_both _ _ (spec_read a h n x) (spec_read a h (n + formulas x) y)
     spec_read a h n (e.Claims p x y) = and_both _ _ (spec_read a h n x) (conjuncts_read a h (n + formulas x) y (spec a (n + formulas x) y) (spec_read a h (n + formulas x) y))
+    spec_read a h n (e.Approves p x) = refl
     spec_read a h n (e.Quantified p q.ForAll ty x y) = for_all_read a (within_quantifier ty x a) h (quantifier_reads a h ty x) n _ y
     spec_read a h n (e.Quantified p q.Exists ty x y) = exists_read a (within_quantifier ty x a) h (quantifier_reads a h ty x) n _ y
 
     members_read : (a : Around) → Reads a → (n : ℕ) (xs : Exps) → AllIn (members a n xs)
     members_read a h n e.Stop = refl
     members_read a h n (e.With x xs) = and_both _ _ (and_both _ _ (spec_read a h n x) refl) (members_read a h (n + formulas x) xs)
+
+    claims_read : (a : Around) → Reads a → (n : ℕ) (xs : Exps) → In (claims_only a n xs)
+    claims_read a h n e.Stop = refl
+    claims_read a h n (e.With x xs) = and_both _ _ (spec_read a h (1 + n) x) (each_read a h (1 + (n + formulas x)) xs)
+
+    each_read : (a : Around) → Reads a → (n : ℕ) (xs : Exps) → AllIn (each_spec a n xs)
+    each_read a h n e.Stop = refl
+    each_read a h n (e.With x xs) = and_both _ _ (spec_read a h n x) (each_read a h (n + formulas x) xs)
 
     conjuncts_read : (a : Around) → Reads a → (n : ℕ) (x : Exp) (w : Spec) → In w → AllIn (conjuncts a n x w)
     conjuncts_read a h n (e.Group p x) w k = conjuncts_read a h n x w k

@@ -72,7 +72,7 @@ mutual
       either_true (mentions u x) (mentions u y || mentions u z) h (mentioned d n x (quiet_left (expression d x) (expression d y ++ expression d z) inner) u)
       (λ k. either_true (mentions u y) (mentions u z) k (mentioned d n y (quiet_left (expression d y) (expression d z) both) u) (mentioned d n z (quiet_right (expression d y) (expression d z) both) u))
   mentioned c n (e.Apply p o x) q u h = mentioned (argument o c) n x (quiet_left (expression (argument o c) x) (Expression c (e.Apply p o x) ∷ []) q) u h
-  mentioned c n (e.Mine p xs) q u h = any_mentioned (deeper c) n xs (quiet_left (each_below (deeper c) xs) (Expression c (e.Mine p xs) ∷ []) q) u h
+  mentioned c n (e.Several p w xs) q u h = any_mentioned (deeper c) n xs (quiet_left (each_below (deeper c) xs) (Expression c (e.Several p w xs) ∷ []) q) u h
   mentioned c n (e.ClaimsObject p x y) q u h =
       let d = deeper c in
       let inner = quiet_left (expression d x ++ expression d y) (Expression c (e.ClaimsObject p x y) ∷ []) q in
@@ -81,6 +81,7 @@ mutual
       let inner = quiet_left (expression (deeper c) x ++ expression (inside_claims c) y) (Expression c (e.Claims p x y) ∷ []) q in
       either_true (mentions u x) (mentions u y) h (mentioned (deeper c) n x (quiet_left (expression (deeper c) x) (expression (inside_claims c) y) inner) u)
       (mentioned (inside_claims c) n y (quiet_right (expression (deeper c) x) (expression (inside_claims c) y) inner) u)
+  mentioned c n (e.Approves p x) q u h = never h
   mentioned c n (e.Quantified p k ty x y) q u h =
       let d = with_quantified ty x (deeper c) in
       let inner = quiet_left (struct_name c.scope.items ty ++ expression d y) (Expression c (e.Quantified p k ty x y) ∷ []) q in

@@ -1,5 +1,5 @@
 -- A program with an object that is well typed and keeps to its scopes: the one that a text leaves, in vectors of any memory. Own.
-use Rattle.std.specs.Prelude.{◌≡◌, ℕ, true, false, pos, List, [], ◌∷◌, None, Result, Ok, Err, codes}
+use Rattle.std.specs.Prelude.{ℕ, false, pos, List, [], ◌∷◌, None, Result, Ok, Err, codes}
 use Prim.Native.String.{String}
 use Rattle.int_ranges.specs.declared.ctype.CType.TheVariants.{Int}
 use Rattle.c_syntax.specs.declared.token.Span.{Span}

@@ -1,5 +1,5 @@
 -- The tables of a program: what the typing of its items leaves. Own: structs, functions and claim sites stand in the order of the text, quantified formulas and shapes are numbered in it; `_(maintains E)` is a clause of both kinds, and `\span(o)` and `\extent(o)` in a writes list require that o is mutable.
-use Rattle.std.specs.Prelude.{false, ℕ, suc, ◌+◌, Bool, not, ◌&&◌, if◌then◌else◌, List, [], ◌∷◌, ◌++◌, length, map, flat_map, Option, Some, None, bytes_eq, codes, option_map}
+use Rattle.std.specs.Prelude.{ℕ, suc, ◌+◌, Bool, not, ◌&&◌, if◌then◌else◌, List, [], ◌∷◌, ◌++◌, length, map, flat_map, Option, Some, None, bytes_eq, codes, option_map}
 use Rattle.c_syntax.specs.declared.token.Span.{Span}
 use Rattle.c_syntax.specs.declared.tree.Condition.{Condition}
 use Rattle.c_syntax.specs.declared.tree.Condition.TheVariants as conditions
@@ -8,7 +8,7 @@ use Rattle.c_syntax.specs.Expressions.{Ty, Exp}
 use Rattle.c_syntax.specs.Statements.{Inv}
 use Rattle.c_syntax.specs.Items as i
 use Rattle.c_syntax.specs.Items.{Written, Clause, FunctionTree, FieldTree, Member, StructTree, Item}
-use Rattle.typing_spec.specs.Declarations.{structs, functions, fields, is_claimable, has_dynamic_owns, has_volatile_owns}
+use Rattle.typing_spec.specs.Declarations.{structs, functions, fields, is_claimable, has_dynamic_owns, has_volatile_owns, is_approval, is_approved, has_approval}
 use Rattle.typing_spec.specs.Contexts.{Context, Variable, Writes, with_text}
 use Rattle.typing_spec.specs.Pieces.{in_function, in_struct, in_condition}
 use Rattle.method.specs.declared.program.Sort.{Sort}
@@ -30,10 +30,11 @@ use Rattle.typed_program.specs.Sites.{Site, Occurrence, Says, Makes, all_occurre
 abbrev pub around_struct : List Item → StructTree → Around
 around_struct items s = record { context = in_struct items s; names = []; bound = 0 }
 
+-- the invariants that say something of the object: those that aren't of approval
 abbrev pub invariants_of : List Member → List Inv
 invariants_of [] = []
 invariants_of (i.Field f ∷ more) = invariants_of more
-invariants_of (i.Invariant x ∷ more) = x ∷ invariants_of more
+invariants_of (i.Invariant x ∷ more) = if is_approval x.property then invariants_of more else x ∷ invariants_of more
 
 -- what a function makes of each invariant, whose quantified formulas are numbered on
 abbrev pub each_invariant : (ℕ → Exp → List Spec) → ℕ → List Inv → List Spec
@@ -41,7 +42,7 @@ each_invariant f n [] = []
 each_invariant f n (x ∷ xs) = f n x.property ++ each_invariant f (n + formulas x.property) xs
 
 abbrev pub field : List Item → StructTree → FieldTree → FieldInfo
-field items s f = record { name = f.name.name; of = struct_number items s.name; ty = declared_type items f.ty; is_volatile = f.is_volatile; is_ghost = f.is_ghost; is_approved = false }
+field items s f = record { name = f.name.name; of = struct_number items s.name; ty = declared_type items f.ty; is_volatile = f.is_volatile; is_ghost = f.is_ghost; is_approved = is_approved s f.name }
 
 -- what a wrap makes the owned set of such an object, for a type whose set is fixed
 abbrev pub fixed_set : List Item → StructTree → ℕ → List Spec
@@ -57,7 +58,7 @@ struct items n s = record {
   first_field = fields_before items s.name;
   fields = length (fields s.members);
   invariants = each_invariant (λ k x. spec (around_struct items s) k x ∷ []) n (invariants_of s.members);
-  has_approval = false;
+  has_approval = has_approval s;
   mine = fixed_set items s n;
 }
 

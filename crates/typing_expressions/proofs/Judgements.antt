@@ -11,6 +11,8 @@ use Rattle.c_syntax.specs.declared.tree.UnaryOperator.{UnaryOperator}
 use Rattle.c_syntax.specs.declared.tree.BinaryOperator.{BinaryOperator}
 use Rattle.c_syntax.specs.declared.tree.SpecFunction.{SpecFunction}
 use Rattle.c_syntax.specs.declared.tree.SpecFunction.TheVariants as f
+use Rattle.c_syntax.specs.declared.tree.ListWord.{ListWord}
+use Rattle.c_syntax.specs.declared.tree.ListWord.TheVariants as lists
 use Rattle.c_syntax.specs.declared.tree.Quantifier.{Quantifier}
 use Rattle.int_ranges.specs.declared.ctype.CType.{CType}
 use Rattle.c_syntax.specs.Expressions as e
@@ -23,13 +25,13 @@ use Rattle.typing_spec.specs.Rules.{Rule}
 use Rattle.typing_spec.specs.Pieces.{Piece, Expression, StructName, part, operand, argument, expression, expressions, each_below, struct_name}
 use Rattle.typing_spec.specs.Places.{place_if, places_if, fails, fail_together}
 use Rattle.typing_spec.specs.Atomic.{accesses}
-use Rattle.typing_spec.specs.SpecWords.{is_ensures, is_type_invariant, is_property, old_is_misplaced}
+use Rattle.typing_spec.specs.SpecWords.{is_ensures, is_type_invariant, is_property, old_is_misplaced, is_mine}
 use Rattle.typing_spec.specs.Properties.{closed_held, is_of_form, is_this}
 use Rattle.typing_spec.specs.Trees.{bare}
 use Rattle.typing_spec.specs.Names.{may_have}
 use Rattle.typing_spec.specs.Values.{field_named}
 use Rattle.typing_spec.specs.GhostCode.{variable_is, field_is, is_code}
-use Rattle.typing_spec.specs.Conversions.{Use, as_reference, as_references}
+use Rattle.typing_spec.specs.Conversions.{Use, as_reference, as_claim, as_references, list_uses}
 use Rattle.typing_spec.specs.FirstLaws.{first_append}
 use Rattle.c_syntax.specs.Grammar.{first_place, exps_of}
 use Rattle.typing_spec.specs.First.{Fault, faults, first_of, earlier, all_at}
@@ -236,22 +238,29 @@ below_each : (c : Context) (xs : List Exp) → each_below c (exps_of xs) ≡ exp
 below_each c [] = refl
 below_each c (x ∷ xs) = ap (λ (ys : List Piece). expression c x ++ ys) (below_each c xs)
 
-references_each : (c : Context) (xs : List Exp) → as_references c (exps_of xs) ≡ map (as_reference c) xs
+references_each : (c : Context) (xs : List Exp) → as_references c (exps_of xs) ≡ map (as_reference (deeper c)) xs
 references_each c [] = refl
 references_each c (x ∷ xs) = ap (λ (us : List Use). as_reference c x ∷ us) (references_each c xs)
 
-same_references : (c : Context) (xs : List Exp) → map (as_reference c) xs ≡ map (as_reference (deeper c)) xs
-same_references c [] = refl
-same_references c (x ∷ xs) = ap (λ (us : List Use). as_reference c x ∷ us) (same_references c xs)
+uses_each : (w : ListWord) (c : Context) (xs : List Exp) → list_uses w c (exps_of xs) ≡ j.row_uses (j.first_wanted w) (deeper c) xs
+uses_each lists.Mine c [] = refl
+uses_each lists.Mine c (x ∷ xs) = ap (λ (us : List Use). as_reference c x ∷ us) (references_each c xs)
+uses_each lists.ClaimsOnly c [] = refl
+uses_each lists.ClaimsOnly c (x ∷ xs) = ap (λ (us : List Use). as_claim c x ∷ us) (references_each c xs)
 
-mine_of : (c : Context) (p : Span) (xs : List Exp) → first_of (faults (Expression c (e.Mine p (exps_of xs)))) ≡ earlier (j.unconverted (map (as_reference (deeper c)) xs)) (broken_if (not (is_type_invariant c.text)) r.ThisPlace p)
-mine_of c p xs =
-    first_append (all_at r.Conversion (flat_map (λ u. place_if (fail_together converts u.value u.wanted) u.place) (as_references c (exps_of xs)))) _
-    ∙ (ap (λ (us : List Use). earlier (j.unconverted us) (first_of (all_at r.ThisPlace (place_if (not (is_type_invariant c.text)) p) ++ []))) (references_each c xs ∙ same_references c xs)
-    ∙ ap (earlier (j.unconverted (map (as_reference (deeper c)) xs))) (last _ r.ThisPlace p))
+-- what a word of several arguments breaks behind them
+several_tests : (a b d f : Bool) (p : Span) → first_of (all_at r.ThisPlace (place_if (a && b) p) ++ (all_at r.PropertyForm (places_if d (place_if f p)) ++ [])) ≡ earlier (broken_if (a && b) r.ThisPlace p) (broken_if (d && f) r.PropertyForm p)
+several_tests a b d f p = one (a && b) r.ThisPlace p (all_at r.PropertyForm (places_if d (place_if f p)) ++ []) ∙ ap (earlier (broken_if (a && b) r.ThisPlace p)) (last_of_two d f r.PropertyForm p)
 
-pub mine_judged : (c : Context) (p : Span) (xs : List Exp) → judge c (e.Mine p (exps_of xs)) ≡ j.mine c p (j.row (deeper c) xs)
-mine_judged c p xs = whole_of c (e.Mine p (exps_of xs)) (each_below (deeper c) (exps_of xs)) _ _ refl (ap violations (below_each (deeper c) xs)) refl (mine_of c p xs)
+several_of : (c : Context) (p : Span) (w : ListWord) (xs : List Exp) → first_of (faults (Expression c (e.Several p w (exps_of xs)))) ≡ earlier (j.unconverted (j.row_uses (j.first_wanted w) (deeper c) xs)) (j.several_breaks c p w)
+several_of c p w xs =
+    let uses = list_uses w c (exps_of xs) in
+    first_append (all_at r.Conversion (flat_map (λ u. place_if (fail_together converts u.value u.wanted) u.place) uses)) _
+    ∙ (ap (earlier (j.unconverted uses)) (several_tests (is_mine w) (not (is_type_invariant c.text)) (is_property c.property) (not (is_mine w)) p)
+    ∙ ap (λ (us : List Use). earlier (j.unconverted us) (j.several_breaks c p w)) (uses_each w c xs))
+
+pub several_judged : (c : Context) (p : Span) (w : ListWord) (xs : List Exp) → judge c (e.Several p w (exps_of xs)) ≡ j.several c p w (j.row (j.first_wanted w) (deeper c) xs)
+several_judged c p w xs = whole_of c (e.Several p w (exps_of xs)) (each_below (deeper c) (exps_of xs)) _ _ refl (ap violations (below_each (deeper c) xs)) refl (several_of c p w xs)
 
 pub claims_object_judged : (c : Context) (p : Span) (x y : Exp) → judge c (e.ClaimsObject p x y) ≡ j.claims_object x y (judge (deeper c) x) (judge (deeper c) y)
 claims_object_judged c p x y =
@@ -259,6 +268,9 @@ claims_object_judged c p x y =
 
 pub claims_judged : (c : Context) (p : Span) (x y : Exp) → judge c (e.Claims p x y) ≡ j.claims x (judge (deeper c) x) (judge (inside_claims c) y)
 claims_judged c p x y = whole_of c (e.Claims p x y) _ _ _ refl (found_append (expression (deeper c) x) (expression (inside_claims c) y)) refl (one_alone _ r.Conversion (first_place x) [] ∙ none_behind _)
+
+pub approves_judged : (c : Context) (p : Span) (x : Id) → judge c (e.Approves p x) ≡ j.leaf (Some Integer) (broken_if true r.ApprovalForm p)
+approves_judged c p x = leaf_of c (e.Approves p x) (broken_if true r.ApprovalForm p) refl refl refl
 
 -- ---- quantifiers
 

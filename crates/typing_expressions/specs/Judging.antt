@@ -1,5 +1,5 @@
 -- What an expression is and what breaks in it, out of its parts: own. Each is what `judge` says of such an expression (proofs/Judgements).
-use Rattle.std.specs.Prelude.{Bool, true, not, ◌&&◌, List, Option, Some, None, is_some, map, flat_map, if◌then◌else◌}
+use Rattle.std.specs.Prelude.{Bool, true, not, ◌&&◌, List, [], ◌∷◌, Option, Some, None, is_some, map, flat_map, if◌then◌else◌}
 use Rattle.std.specs.List.{list_any}
 use Rattle.std.specs.Option.{option_map, option_and_then}
 use Rattle.c_syntax.specs.declared.token.Span.{Span}
@@ -10,6 +10,8 @@ use Rattle.c_syntax.specs.declared.tree.Status.TheVariants as statuses
 use Rattle.c_syntax.specs.declared.tree.UnaryOperator.{UnaryOperator}
 use Rattle.c_syntax.specs.declared.tree.BinaryOperator.{BinaryOperator}
 use Rattle.c_syntax.specs.declared.tree.SpecFunction.{SpecFunction}
+use Rattle.c_syntax.specs.declared.tree.ListWord.{ListWord}
+use Rattle.c_syntax.specs.declared.tree.ListWord.TheVariants as lists
 use Rattle.c_syntax.specs.declared.tree.Quantifier.{Quantifier}
 use Rattle.c_syntax.specs.Expressions.{Id, Ty, Pointer, Exp}
 use Rattle.c_syntax.specs.Items.{FieldTree, Item}
@@ -19,16 +21,16 @@ use Rattle.typing_spec.specs.Contexts.{InProperty, Outside, Conjunct, Below, Con
 use Rattle.typing_spec.specs.Types.{Kind, Integer, Object, Claim, OwnedSet, is_pointer, only_if, kind_of, find_variable, type_of_name, field_of, constant_kind, status_kind, unary_fits, binary_fits, conditional_kind, function_kind, truth, truth_of_both, kinds, converts}
 use Rattle.typing_spec.specs.Pieces.{expressions}
 use Rattle.typing_spec.specs.Places.{place_if, fails, fail_together}
-use Rattle.typing_spec.specs.Conversions.{Use, as_reference}
+use Rattle.typing_spec.specs.Conversions.{Use, to, as_reference}
 use Rattle.typing_spec.specs.Rules as r
 use Rattle.typing_spec.specs.Names.{may_have}
 use Rattle.typing_spec.specs.Operands.{misfit, branches_misfit}
 use Rattle.typing_spec.specs.GhostCode.{variable_is, field_is, is_code}
-use Rattle.typing_spec.specs.SpecWords.{is_type_invariant, is_ensures, is_status, is_property, old_is_misplaced}
+use Rattle.typing_spec.specs.SpecWords.{is_type_invariant, is_ensures, is_status, is_property, old_is_misplaced, is_mine}
 use Rattle.typing_spec.specs.Properties.{is_of_form, is_this}
 use Rattle.typing_spec.specs.Trees.{bare, same_tree}
 use Rattle.typing_spec.specs.First.{Fault, first_of, all_at, earlier}
-use Rattle.typing_expressions.specs.Violations.{Violations, violations, breaking, broken_if, joined, Judged}
+use Rattle.typing_expressions.specs.Violations.{Violations, violations, nothing, breaking, broken_if, joined, Judged}
 
 -- a value that doesn't convert where this kind is wanted
 abbrev pub unconverted_if : Option Kind → Kind → Span → Option Fault
@@ -138,21 +140,45 @@ apply c p h x l = whole (option_map (function_kind h) l.kind) l.violations (appl
 abbrev pub unconverted : List Use → Option Fault
 unconverted us = first_of (all_at r.Conversion (flat_map (λ u. place_if (fail_together converts u.value u.wanted) u.place) us))
 
--- Expressions where references are wanted: the truth of a statement about all, what breaks in them, and the first that is no reference.
+-- Expressions in a row: the truth of a statement about all, what breaks in them, the first that doesn't convert to what is wanted of it, and what is wanted of the next.
 pub record Row : Type 0 where
   pub kind : Option Kind
   pub violations : Violations
   pub unconverted : Option Fault
+  pub wanted : Kind
 
-abbrev pub row : Context → List Exp → Row
-row c xs = record { kind = kinds c.scope (exps_of xs); violations = violations (expressions c xs); unconverted = unconverted (map (as_reference c) xs) }
+-- their uses, where this is wanted of the first and a reference of each further one
+abbrev pub row_uses : Kind → Context → List Exp → List Use
+row_uses k c [] = []
+row_uses k c (x ∷ xs) = to (Some k) c x ∷ map (as_reference c) xs
+
+-- what is wanted behind them
+abbrev pub wanted : Kind → List Exp → Kind
+wanted k [] = k
+wanted k (x ∷ xs) = Object
+
+abbrev pub row : Kind → Context → List Exp → Row
+row k c xs = record { kind = kinds c.scope (exps_of xs); violations = violations (expressions c xs); unconverted = unconverted (row_uses k c xs); wanted = wanted k xs }
+
+-- none
+abbrev pub empty_row : Kind → Row
+empty_row k = record { kind = Some Integer; violations = nothing; unconverted = None; wanted = k }
 
 -- and one more
 abbrev pub row_with : Row → Judged → Span → Row
-row_with x y p = record { kind = truth_of_both x.kind y.kind; violations = joined x.violations y.violations; unconverted = earlier x.unconverted (unconverted_if y.kind Object p) }
+row_with x y p = record { kind = truth_of_both x.kind y.kind; violations = joined x.violations y.violations; unconverted = earlier x.unconverted (unconverted_if y.kind x.wanted p); wanted = Object }
 
-abbrev pub mine : Context → Span → Row → Judged
-mine c p x = whole x.kind x.violations (earlier x.unconverted (broken_if (not (is_type_invariant c.text)) r.ThisPlace p))
+-- what is wanted of the first argument of a word of several
+abbrev pub first_wanted : ListWord → Kind
+first_wanted lists.Mine = Object
+first_wanted lists.ClaimsOnly = Claim
+
+-- what such a word breaks behind its arguments
+abbrev pub several_breaks : Context → Span → ListWord → Option Fault
+several_breaks c p w = earlier (broken_if (is_mine w && not (is_type_invariant c.text)) r.ThisPlace p) (broken_if (is_property c.property && not (is_mine w)) r.PropertyForm p)
+
+abbrev pub several : Context → Span → ListWord → Row → Judged
+several c p w x = whole x.kind x.violations (earlier x.unconverted (several_breaks c p w))
 
 abbrev pub claims_object : Exp → Exp → Judged → Judged → Judged
 claims_object x y k l = whole (truth_of_both k.kind l.kind) (joined k.violations l.violations) (earlier (unconverted_if k.kind Claim (first_place x)) (unconverted_if l.kind Object (first_place y)))

@@ -53,6 +53,7 @@ rule rules.ReturnForm = r.ReturnForm
 rule rules.SpawnedValue = r.SpawnedValue
 rule rules.StructForm = r.StructForm
 rule rules.NoMain = r.NoMain
+rule rules.ApprovalForm = r.ApprovalForm
 
 abbrev pub broken : Violation → Fault
 broken b = (rule b.rule, b.span)
@@ -79,7 +80,7 @@ abbrev pub judged : Judged → f.Judged
 judged x = record { kind = maybe_kind x.kind; violations = findings x.violations }
 
 abbrev pub row_of : Row → j.Row
-row_of x = record { kind = maybe_kind x.kind; violations = findings x.violations; unconverted = maybe_broken x.unconverted }
+row_of x = record { kind = maybe_kind x.kind; violations = findings x.violations; unconverted = maybe_broken x.unconverted; wanted = kind x.wanted }
 
 abbrev pub text : Text → c.Text
 text texts.Code = c.Code

@@ -4,14 +4,16 @@ ghost use Rattle.std.specs.Prelude.{◌≡◌};
 ghost use Rattle.c_syntax.specs.Views.{exp, exps};
 ghost use Rattle.typing_expressions.specs.Violations.{judge};
 ghost use Rattle.typing_expressions.specs.Judging as spec;
-ghost use Rattle.typing_expressions.specs.Views.{context as around, judged, row_of};
+ghost use Rattle.typing_expressions.specs.Views.{context as around, kind, judged, row_of};
 
 use crate::arrows::{field, name, owns, status, word};
 use crate::context::{Context, Quantified};
 use crate::forms::first_place;
 use crate::judged::{Judged, binary, conditional, leaf, unary, whole};
 use crate::kinds::Kind;
-use crate::words::{Row, apply, claims, claims_object, mine, quantified};
+use crate::rule::Rule;
+use crate::violations::broken_if;
+use crate::words::{Row, apply, claims, claims_object, first_wanted, quantified, several};
 use c_syntax::expressions::Expr;
 
 /// What an expression is, and what breaks in it.
@@ -61,9 +63,9 @@ pub fn expression<'s, 'a>(context: Context<'s, 'a>, x: &'a Expr) -> Judged<'s, '
             let inner = expression(context.argument(*function), argument);
             apply(context, *span, *function, argument, inner)
         }
-        Expr::Mine(span, arguments) => {
-            let inner = row(inside, arguments);
-            mine(context, *span, inner)
+        Expr::Several(span, word, arguments) => {
+            let inner = row(inside, first_wanted(*word), arguments);
+            several(context, *span, *word, inner)
         }
         Expr::ClaimsObject(_, claim, object) => {
             let first = expression(inside, claim);
@@ -75,6 +77,12 @@ pub fn expression<'s, 'a>(context: Context<'s, 'a>, x: &'a Expr) -> Judged<'s, '
             let second = expression(context.inside_claims(), property);
             claims(claim, first, second)
         }
+        Expr::Approves(span, _) => {
+            leaf(
+                Some(Kind::Integer),
+                broken_if(true, Rule::ApprovalForm, *span),
+            )
+        }
         Expr::Quantified(span, quantifier, ty, variable, body) => {
             let bound = Quantified::Variable(ty, variable, context.scope.quantified);
             let in_body = context.quantified(ty, variable, &bound);
@@ -84,12 +92,12 @@ pub fn expression<'s, 'a>(context: Context<'s, 'a>, x: &'a Expr) -> Judged<'s, '
     }
 }
 
-/// Expressions where references are wanted.
+/// Expressions in a row, where this is wanted of the first and a reference of each further one.
 #[cycle(expressions)]
-pub fn row<'s, 'a>(context: Context<'s, 'a>, all: &'a [Expr]) -> Row<'s, 'a>
-    ensures { row_of result ≡ spec.row (around context.entry) (exps all.now) }
+pub fn row<'s, 'a>(context: Context<'s, 'a>, wanted: Kind<'s, 'a>, all: &'a [Expr]) -> Row<'s, 'a>
+    ensures { row_of result ≡ spec.row (kind wanted.entry) (around context.entry) (exps all.now) }
 {
-    let mut so_far = Row::nothing(context);
+    let mut so_far = Row::nothing(context, wanted);
     for x in all {
         so_far = so_far.with(expression(context, x), first_place(x));
     }

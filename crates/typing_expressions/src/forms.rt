@@ -2,6 +2,7 @@
 
 ghost use Rattle.std.specs.Prelude.{◌≡◌};
 ghost use Rattle.std.specs.List.{list_any};
+ghost use Rattle.std.specs.Option.{option_map};
 ghost use Rattle.c_syntax.specs.Expressions as e;
 ghost use Rattle.c_syntax.specs.Grammar as grammar;
 ghost use Rattle.c_syntax.specs.Views.{id, exp, exps};
@@ -33,6 +34,24 @@ pub fn is_this(x: &Expr) -> bool
     }
 }
 
+/// The field that an invariant approves, if it is an approval, brackets apart.
+pub fn approved_field<'a>(x: &'a Expr) -> Option<&'a Identifier>
+    ensures { option_map (λ n. id n.now) result ≡ declared.approved_field (exp x.now) }
+{
+    match x {
+        Expr::Group(_, inner) => approved_field(inner),
+        Expr::Approves(_, field) => Some(field),
+        _ => None,
+    }
+}
+
+/// Whether an invariant is an approval, brackets apart.
+pub fn is_approval(x: &Expr) -> bool
+    ensures { result ≡ declared.is_approval (exp x.now) }
+{
+    approved_field(x).is_some()
+}
+
 /// Whether both have one name.
 pub fn same_name(left: &Identifier, right: &Identifier) -> bool
     ensures { result ≡ declared.same_name (id left.now) (id right.now) }
@@ -56,7 +75,9 @@ pub fn mentions(name: &Identifier, x: &Expr) -> bool
     ensures { result ≡ trees.mentions (id name.now) (exp x.now) }
 {
     match x {
-        Expr::Number(_, _, _) | Expr::Null(_) | Expr::Constant(_, _) => false,
+        Expr::Number(_, _, _) | Expr::Null(_) | Expr::Constant(_, _) | Expr::Approves(_, _) => {
+            false
+        }
         Expr::Name(other) => same_name(name, other),
         Expr::Group(_, inner)
         | Expr::Field(_, inner, _)
@@ -70,7 +91,7 @@ pub fn mentions(name: &Identifier, x: &Expr) -> bool
         Expr::Conditional(_, test, first, second) => {
             mentions(name, test) || (mentions(name, first) || mentions(name, second))
         }
-        Expr::Mine(_, arguments) => any_mentions(name, arguments),
+        Expr::Several(_, _, arguments) => any_mentions(name, arguments),
         Expr::Quantified(_, _, _, bound, body) => {
             if same_name(name, bound) {
                 false
@@ -183,9 +204,10 @@ pub fn first_place(x: &Expr) -> Span
         | Expr::Group(span, _)
         | Expr::Unary(span, _, _)
         | Expr::Apply(span, _, _)
-        | Expr::Mine(span, _)
+        | Expr::Several(span, _, _)
         | Expr::ClaimsObject(span, _, _)
         | Expr::Claims(span, _, _)
+        | Expr::Approves(span, _)
         | Expr::Quantified(span, _, _, _, _) => *span,
     }
 }

@@ -112,7 +112,7 @@ pub fn misfit<'s, 'a>(
 }
 
 /// What an operator gives.
-fn binary_kind<'s, 'a>(
+pub fn binary_kind<'s, 'a>(
     operator: BinaryOperator,
     left: Option<Kind<'s, 'a>>,
     right: Option<Kind<'s, 'a>>,

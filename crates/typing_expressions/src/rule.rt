@@ -55,10 +55,12 @@ pub enum Rule {
     StructForm,
     /// There is no `main`.
     NoMain,
+    /// `\approves` is out of place or of form.
+    ApprovalForm,
 }
 
 impl Rule {
-    /// The number by which the rule is told, from 1 to 24.
+    /// The number by which the rule is told, from 1 to 25.
     pub fn number(self) -> u8
         ensures { result ≡ spec.number (rule self) }
     {
@@ -87,6 +89,7 @@ impl Rule {
             Rule::SpawnedValue => 22,
             Rule::StructForm => 23,
             Rule::NoMain => 24,
+            Rule::ApprovalForm => 25,
         }
     }
 }

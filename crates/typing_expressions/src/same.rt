@@ -7,7 +7,9 @@ ghost use Rattle.typing_spec.specs.Trees as trees;
 
 use crate::forms::{bare, is_name, same_name};
 use c_syntax::expressions::{Expr, ValueType};
-use c_syntax::tree::{BinaryOperator, Constant, Quantifier, SpecFunction, Status, UnaryOperator};
+use c_syntax::tree::{
+    BinaryOperator, Constant, ListWord, Quantifier, SpecFunction, Status, UnaryOperator,
+};
 use int_ranges::ctype::CType;
 
 fn integer_number(ty: CType) -> u8
@@ -85,6 +87,15 @@ fn function_number(function: SpecFunction) -> u8
         SpecFunction::WrappedUnclaimed => 4,
         SpecFunction::Mutable => 5,
         SpecFunction::Fresh => 6,
+    }
+}
+
+fn list_word_number(word: ListWord) -> u8
+    ensures { result ≡ trees.list_word_number word }
+{
+    match word {
+        ListWord::Mine => 1,
+        ListWord::ClaimsOnly => 2,
     }
 }
 
@@ -168,8 +179,10 @@ pub fn same_tree(left: &Expr, right: &Expr) -> bool
             }
             _ => false,
         },
-        Expr::Mine(_, arguments) => match other {
-            Expr::Mine(_, same) => same_row(arguments, same),
+        Expr::Several(_, word, arguments) => match other {
+            Expr::Several(_, told, same) => {
+                list_word_number(*word) == list_word_number(*told) && same_row(arguments, same)
+            }
             _ => false,
         },
         Expr::ClaimsObject(_, claim, object) => match other {
@@ -178,6 +191,10 @@ pub fn same_tree(left: &Expr, right: &Expr) -> bool
         },
         Expr::Claims(_, claim, property) => match other {
             Expr::Claims(_, one, two) => same_tree(claim, one) && same_tree(property, two),
+            _ => false,
+        },
+        Expr::Approves(_, field) => match other {
+            Expr::Approves(_, same) => same_name(field, same),
             _ => false,
         },
         Expr::Quantified(_, quantifier, ty, variable, body) => match other {

@@ -1,6 +1,6 @@
 //! Words with arguments, and quantifiers.
 
-ghost use Rattle.std.specs.Prelude.{◌≡◌, []};
+ghost use Rattle.std.specs.Prelude.{◌≡◌};
 ghost use Rattle.std.specs.Option.{option_map};
 ghost use Rattle.c_syntax.specs.Views as view;
 ghost use Rattle.c_syntax.specs.Views.{id, exp};
@@ -8,7 +8,7 @@ ghost use Rattle.typing_spec.specs.SpecWords as words;
 ghost use Rattle.typing_spec.specs.Types as types;
 ghost use Rattle.typing_symbols.specs.Whole.{program};
 ghost use Rattle.typing_expressions.specs.Judging as spec;
-ghost use Rattle.typing_expressions.specs.Views.{context as around, maybe_kind, maybe_broken, judged, row_of};
+ghost use Rattle.typing_expressions.specs.Views.{context as around, kind, maybe_kind, maybe_broken, judged, row_of};
 
 use crate::arrows::{is_property, is_type_invariant};
 use crate::context::{Context, Text};
@@ -20,7 +20,7 @@ use crate::rule::Rule;
 use crate::violations::{Diagnostics, Violation, broken_if, earlier};
 use c_syntax::expressions::{Expr, Identifier, ValueType};
 use c_syntax::token::Span;
-use c_syntax::tree::{Quantifier, SpecFunction};
+use c_syntax::tree::{ListWord, Quantifier, SpecFunction};
 use typing_symbols::declarations::Declarations;
 
 /// Whether the word tells a status.
@@ -100,29 +100,48 @@ pub fn apply<'s, 'a>(
     whole(apply_kind(function, inner.kind), inner.violations, own)
 }
 
-/// Expressions where references are wanted: the truth of a statement about all, what breaks in them, and the first that is no
-/// reference.
+/// Whether the word is `\mine`.
+fn is_mine(word: ListWord) -> bool
+    ensures { result ≡ words.is_mine word }
+{
+    matches!(word, ListWord::Mine)
+}
+
+/// What is wanted of the word's first argument.
+pub fn first_wanted<'s, 'a>(word: ListWord) -> Kind<'s, 'a>
+    ensures { kind result ≡ spec.first_wanted word }
+{
+    match word {
+        ListWord::Mine => Kind::Object,
+        ListWord::ClaimsOnly => Kind::Claim,
+    }
+}
+
+/// Expressions in a row: the truth of a statement about all, what breaks in them, the first that doesn't convert to what is
+/// wanted of it, and what is wanted of the next.
 #[derive(Clone, Copy)]
 pub struct Row<'s, 'a> {
     pub kind: Option<Kind<'s, 'a>>,
     pub violations: Diagnostics,
     pub unconverted: Option<Violation>,
+    pub wanted: Kind<'s, 'a>,
 }
 
 impl<'s, 'a> Row<'s, 'a> {
-    /// No expression.
-    pub fn nothing(context: Context<'s, 'a>) -> Row<'s, 'a>
-        ensures { row_of result ≡ spec.row (around context.entry) [] }
+    /// No expression, where this is wanted of the first.
+    pub fn nothing(context: Context<'s, 'a>, wanted: Kind<'s, 'a>) -> Row<'s, 'a>
+        ensures { row_of result ≡ spec.empty_row (kind wanted.entry) }
     {
         let _ = context;
         Row {
             kind: Some(Kind::Integer),
             violations: Diagnostics::nothing(),
             unconverted: None,
+            wanted,
         }
     }
 
-    /// With one more.
+    /// With one more, behind which a reference is wanted.
     pub fn with(self, more: Judged<'s, 'a>, place: Span) -> Row<'s, 'a>
         ensures { row_of result ≡ spec.row_with (row_of self.entry) (judged more.entry) place }
     {
@@ -131,21 +150,32 @@ impl<'s, 'a> Row<'s, 'a> {
             violations: self.violations.then(more.violations),
             unconverted: earlier(
                 self.unconverted,
-                unconverted_if(more.kind, Kind::Object, place),
+                unconverted_if(more.kind, self.wanted, place),
             ),
+            wanted: Kind::Object,
         }
     }
 }
 
-/// `\mine` of these.
-pub fn mine<'s, 'a>(context: Context<'s, 'a>, span: Span, arguments: Row<'s, 'a>) -> Judged<'s, 'a>
-    ensures { judged result ≡ spec.mine (around context.entry) span (row_of arguments.entry) }
+/// A word of these arguments.
+pub fn several<'s, 'a>(
+    context: Context<'s, 'a>,
+    span: Span,
+    word: ListWord,
+    arguments: Row<'s, 'a>,
+) -> Judged<'s, 'a>
+    ensures { judged result ≡ spec.several (around context.entry) span word (row_of arguments.entry) }
 {
-    let misplaced = broken_if(!is_type_invariant(context.text), Rule::ThisPlace, span);
+    let is_outside = is_mine(word) && !is_type_invariant(context.text);
+    let is_held = is_property(context.property) && !is_mine(word);
+    let own = earlier(
+        broken_if(is_outside, Rule::ThisPlace, span),
+        broken_if(is_held, Rule::PropertyForm, span),
+    );
     whole(
         arguments.kind,
         arguments.violations,
-        earlier(arguments.unconverted, misplaced),
+        earlier(arguments.unconverted, own),
     )
 }
 

@@ -8,7 +8,8 @@ use Rattle.std.proofs.lemmas.List.{map-append, length-map}
 use Rattle.c_syntax.specs.declared.token.Span.{Span}
 use Rattle.c_syntax.specs.Expressions.{Id}
 use Rattle.c_syntax.specs.Items as i
-use Rattle.c_syntax.specs.Items.{FunctionTree, FieldTree, StructTree, Item}
+use Rattle.c_syntax.specs.Items.{FunctionTree, FieldTree, Member, StructTree, Item}
+use Rattle.typing_spec.specs.Approval.{member_misapproved}
 use Rattle.typing_spec.specs.Declarations.{structs, functions, fields, has_dynamic_owns, has_volatile_owns}
 use Rattle.typing_spec.specs.Functions.{no_main}
 use Rattle.typing_spec.specs.Names.{repeated, variables}
@@ -21,12 +22,12 @@ use Rattle.typing_spec.specs.FirstLaws.{first_append, first_of_pieces, earlier_g
 use Rattle.typing_expressions.specs.declared.violations.Diagnostics.{Diagnostics}
 use Rattle.typing_expressions.specs.Violations.{Violations, violations, broken_if}
 use Rattle.typing_expressions.specs.Views.{findings, maybe_broken}
-use Rattle.typing_expressions.proofs.Judgements.{last}
-use Rattle.typing_expressions.proofs.Rows.{take_at}
+use Rattle.typing_expressions.proofs.Judgements.{one, last}
+use Rattle.typing_expressions.proofs.Rows.{all_at_append, take_at}
 use Rattle.typing_statements.specs.Parts.{function_parts}
 use Rattle.typing_spec.specs.DeclaredVariables.{function_names, variables_are}
 use Rattle.typing_program.specs.Names.{field_names}
-use Rattle.typing_program.specs.Violation.{twice, first_in, is_out_of_form, is_open, struct_own, function_own, names_first, is_main, struct_first, function_first, structs_first, functions_first}
+use Rattle.typing_program.specs.Violation.{twice, first_in, is_out_of_form, is_open, misapprovals, struct_own, function_own, names_first, is_main, struct_first, function_first, structs_first, functions_first}
 use Rattle.typing_program.proofs.Repeated.{alone}
 
 -- what was found of pieces has what they break first
@@ -44,9 +45,10 @@ struct_faults : (items : List Item) (s : StructTree) → first_of (faults (Struc
 struct_faults items s =
     let names = field_names s.members in
     let b = (has_dynamic_owns s && has_volatile_owns s) || (length (fields s.members) == 0) in
-    first_append (all_at r.DeclaredTwice (repeated [] names)) (all_at r.StructForm (place_if b s.name.place) ++ [])
-    ∙ (ap (earlier (twice names)) (last b r.StructForm s.name.place)
-    ∙ ap (λ (n : ℕ). earlier (twice names) (broken_if ((has_dynamic_owns s && has_volatile_owns s) || (n == 0)) r.StructForm s.name.place)) (sym (length-map (fields s.members) (λ (f : FieldTree). f.name))))
+    let approvals = all_at r.ApprovalForm (flat_map (member_misapproved s) s.members) in
+    first_append (all_at r.DeclaredTwice (repeated [] names)) (all_at r.StructForm (place_if b s.name.place) ++ (approvals ++ []))
+    ∙ (ap (earlier (twice names)) (one b r.StructForm s.name.place (approvals ++ []) ∙ ap (λ (fs : List Fault). earlier (broken_if b r.StructForm s.name.place) (first_of fs)) (append-nil approvals))
+    ∙ ap (λ (n : ℕ). earlier (twice names) (earlier (broken_if ((has_dynamic_owns s && has_volatile_owns s) || (n == 0)) r.StructForm s.name.place) (misapprovals s s.members))) (sym (length-map (fields s.members) (λ (f : FieldTree). f.name))))
 
 pub struct_is : (items : List Item) (s : StructTree) → struct_first items s ≡ earlier (struct_own s) (first_in (flat_map (member items s) s.members))
 struct_is items s = following (Struct items s) (flat_map (member items s) s.members) ∙ ap (λ (o : Option Fault). earlier o (first_in (flat_map (member items s) s.members))) (struct_faults items s)
@@ -73,10 +75,10 @@ function_is items f = following (Function items f) (function_parts items f) ∙ 
 either : {o o2 q q2 : Option Fault} → o ≡ o2 → q ≡ q2 → earlier o q ≡ earlier o2 q2
 either h k = λ i. earlier (h i) (k i)
 
-pub struct_together : (s : StructTree) (names : List Id) (b : Bool) (one two after : Option Fault) → names ≡ field_names s.members → one ≡ twice names → b ≡ is_out_of_form s names → two ≡ broken_if b r.StructForm s.name.place → after ≡ earlier one two
-    → after ≡ struct_own s
-struct_together s names b one two after e h k l m =
-    m ∙ either (h ∙ ap twice e) (l ∙ ap (λ (d : Bool). broken_if d r.StructForm s.name.place) (k ∙ ap (is_out_of_form s) e))
+pub struct_together : (s : StructTree) (names : List Id) (b : Bool) (one two three both after : Option Fault) → names ≡ field_names s.members → one ≡ twice names → b ≡ is_out_of_form s names → two ≡ broken_if b r.StructForm s.name.place → three ≡ misapprovals s s.members
+    → both ≡ earlier two three → after ≡ earlier one both → after ≡ struct_own s
+struct_together s names b one two three both after e h k l n o m =
+    m ∙ either (h ∙ ap twice e) (o ∙ either (l ∙ ap (λ (d : Bool). broken_if d r.StructForm s.name.place) (k ∙ ap (is_out_of_form s) e)) n)
 
 pub function_together : (f : FunctionTree) (names : List Id) (b : Bool) (one two after : Option Fault) → names ≡ function_names f → one ≡ twice names → b ≡ is_open f → two ≡ broken_if b r.ReturnForm f.body.end
     → after ≡ earlier one two → after ≡ function_own f
@@ -87,6 +89,20 @@ struct_with_members items s own after inner h k m = m ∙ (either h (first_found
 
 pub function_with_parts : (items : List Item) (f : FunctionTree) (own after : Option Fault) (inner : Diagnostics) → own ≡ function_own f → findings inner ≡ violations (function_parts items f) → after ≡ earlier own (maybe_broken inner.first) → after ≡ function_first items f
 function_with_parts items f own after inner h k m = m ∙ (either h (first_found inner (function_parts items f) k) ∙ sym (function_is items f))
+
+-- ---- approvals
+
+misapprovals_more : (s : StructTree) (ms : List Member) (m : Member) → misapprovals s (ms ++ m ∷ []) ≡ earlier (misapprovals s ms) (misapprovals s (m ∷ []))
+misapprovals_more s ms m =
+    let here = flat_map (member_misapproved s) ms in
+    let there = flat_map (member_misapproved s) (m ∷ []) in
+    ap (λ (ps : List Span). first_of (all_at r.ApprovalForm ps)) (flat_map-append (member_misapproved s) ms (m ∷ []))
+    ∙ (ap first_of (all_at_append r.ApprovalForm here there) ∙ first_append (all_at r.ApprovalForm here) (all_at r.ApprovalForm there))
+
+-- a loop over members
+pub misapprovals_next : {X : Type 0} (s : StructTree) (v : X → Member) (xs : List X) (i : ℕ) (x : X) (so_far one after : Option Fault) → i < length xs → x ≡ get_or xs i x → so_far ≡ misapprovals s (map v (take i xs)) → one ≡ misapprovals s (v x ∷ []) → after ≡ earlier so_far one
+    → after ≡ misapprovals s (map v (take (i + 1) xs))
+misapprovals_next s v xs i x so_far one after lt is h k m = m ∙ (either h k ∙ (sym (misapprovals_more s (map v (take i xs)) (v x)) ∙ ap (misapprovals s) (sym (take_at v xs i x lt is))))
 
 -- ---- several
 

@@ -1,5 +1,6 @@
 -- What loops over names, members, structs and functions have come to.
-use Rattle.std.proofs.Common.{◌≡◌, ℕ, zero, suc, ◌+◌, ◌-◌, ◌<◌, ◌≤◌, refl, sym, ◌∙◌, ap, append-nil, append_assoc, Bool, true, false, ◌||◌, List, [], ◌∷◌, ◌++◌, Option, Some, None, Bor, map, take, drop, get_or, slice_get, length, arith}
+use Rattle.std.proofs.Common.{◌≡◌, ℕ, zero, suc, ◌+◌, ◌-◌, ◌<◌, ◌≤◌, ◌==◌, refl, sym, ◌∙◌, ap, append-nil, append_assoc, Bool, true, false, ◌||◌, List, [], ◌∷◌, ◌++◌, Option, Bor, map, take, drop, get_or, length, arith}
+use Rattle.std.proofs.lemmas.Bool.{true≢false}
 use Rattle.std.specs.Prelude.{flat_map}
 use Rattle.std.specs.List.{list_any}
 use Rattle.std.proofs.lemmas.Grind.{flat_map-append}
@@ -103,14 +104,12 @@ none_true f v xs i h inv = sym (inv ∙ ap (some f v) (dropped xs i h))
 
 -- ---- the last statement
 
-abbrev returns : Option Stmt → Bool
-returns None = false
-returns (Some x) = is_return (view.stm x)
+last_at : (y : Stmt) (ys : List Stmt) (x : Stmt) → x ≡ get_or (y ∷ ys) (length ys) x → is_return (view.stm x) ≡ ends_with_return (view.stms (y ∷ ys))
+last_at y [] x e = ap (λ z. is_return (view.stm z)) e
+last_at y (z ∷ zs) x e = last_at z zs x e
 
-pub ends_at : (xs : List Stmt) (x : Stmt) → Some x ≡ slice_get xs (length xs - 1) → is_return (view.stm x) ≡ ends_with_return (view.stms xs)
-ends_at [] x e = ap returns e
-ends_at (y ∷ []) x e = ap returns e
-ends_at (y ∷ (z ∷ zs)) x e =
-    let h : length (y ∷ (z ∷ zs)) - 1 ≡ suc (length zs) = omega arith in
-    let k : length (z ∷ zs) - 1 ≡ length zs = omega arith in
-    ends_at (z ∷ zs) x (e ∙ (ap (slice_get (y ∷ (z ∷ zs))) h ∙ ap (slice_get (z ∷ zs)) (sym k)))
+pub ends_at : (xs : List Stmt) (x : Stmt) → (length xs == 0) ≡ false → x ≡ get_or xs (length xs - 1) x → is_return (view.stm x) ≡ ends_with_return (view.stms xs)
+ends_at [] x n e = absurd (true≢false n)
+ends_at (y ∷ ys) x n e =
+    let h : length (y ∷ ys) - 1 ≡ length ys = omega arith in
+    last_at y ys x (e ∙ ap (λ k. get_or (y ∷ ys) k x) h)

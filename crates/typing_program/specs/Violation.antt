@@ -1,9 +1,10 @@
 -- What programs, structs and functions break first, part by part: own. Each is proved to be what the pieces of a program say (proofs/Firsts).
 use Rattle.std.specs.Prelude.{Bool, not, ◌&&◌, ◌||◌, ◌==◌, List, [], Option, bytes_eq, codes, flat_map, is_some, length, map}
-use Rattle.c_syntax.specs.Expressions.{Id}
+use Rattle.c_syntax.specs.Expressions.{Id, Exp}
 use Rattle.c_syntax.specs.Items as i
-use Rattle.c_syntax.specs.Items.{FunctionTree, StructTree, Item}
+use Rattle.c_syntax.specs.Items.{FunctionTree, Member, StructTree, Item}
 use Rattle.typing_spec.specs.Names.{repeated}
+use Rattle.typing_spec.specs.Approval.{misapproved, member_misapproved}
 use Rattle.typing_spec.specs.Pieces.{Piece, item}
 use Rattle.typing_spec.specs.Rules as r
 use Rattle.typing_spec.specs.First.{Fault, faults, first_of, earlier, all_at}
@@ -25,9 +26,16 @@ first_in xs = first_of (flat_map faults xs)
 abbrev pub is_out_of_form : StructTree → List Id → Bool
 is_out_of_form s names = (has_dynamic_owns s && has_volatile_owns s) || (length names == 0)
 
+-- what an invariant of a struct breaks as an approval, and what several members do first
+abbrev pub misapproval : StructTree → Exp → Option Fault
+misapproval s x = first_of (all_at r.ApprovalForm (misapproved s x))
+
+abbrev pub misapprovals : StructTree → List Member → Option Fault
+misapprovals s ms = first_of (all_at r.ApprovalForm (flat_map (member_misapproved s) ms))
+
 -- what a struct itself breaks first
 abbrev pub struct_own : StructTree → Option Fault
-struct_own s = earlier (twice (field_names s.members)) (broken_if (is_out_of_form s (field_names s.members)) r.StructForm s.name.place)
+struct_own s = earlier (twice (field_names s.members)) (earlier (broken_if (is_out_of_form s (field_names s.members)) r.StructForm s.name.place) (misapprovals s s.members))
 
 -- a function has a value, and its last statement is no return
 abbrev pub is_open : FunctionTree → Bool

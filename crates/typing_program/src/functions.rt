@@ -24,14 +24,14 @@ fn is_return(x: &Stmt) -> bool
     matches!(x, Stmt::Return(_, _))
 }
 
-/// Whether the last of these statements is a return.
+/// Whether the last of these statements is a return. (`last` is refused: an option of a statement is too large a type.)
 fn ends_with_return(body: &[Stmt]) -> bool
     ensures { result ≡ forms.ends_with_return (view.stms body.now) }
 {
-    match body.last() {
-        Some(last) => is_return(last),
-        None => false,
+    if body.is_empty() {
+        return false;
     }
+    is_return(&body[body.len() - 1])
 }
 
 /// Whether a function has a value and doesn't end with a return.

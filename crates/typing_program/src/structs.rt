@@ -9,9 +9,10 @@ ghost use Rattle.typing_program.specs.Violation as spec;
 ghost use Rattle.typing_program.specs.Names.{held, field_names};
 
 use crate::names::first_repeated;
-use c_syntax::expressions::Identifier;
+use c_syntax::expressions::{Expr, Identifier};
 use c_syntax::items::Member;
 use std::alloc::{AllocError, Global};
+use typing_expressions::arrows::is_volatile_field;
 use typing_expressions::rule::Rule;
 use typing_expressions::violations::{Violation, broken_if, earlier};
 use typing_statements::structs::struct_members;
@@ -48,6 +49,41 @@ fn is_out_of_form<'a>(x: &StructEntry<'a>, names: &[&'a Identifier]) -> bool
     (x.has_dynamic_owns() && x.has_volatile_owns()) || names.is_empty()
 }
 
+/// What an invariant breaks as an approval, brackets apart: the field isn't a volatile one of the struct.
+fn misapproval<'a>(x: &StructEntry<'a>, property: &Expr) -> Option<Violation>
+    ensures { maybe_broken result ≡ spec.misapproval (view.struct x.now.tree.now) (view.exp property.now) }
+{
+    match property {
+        Expr::Group(_, inner) => misapproval(x, inner),
+        Expr::Approves(span, name) => {
+            let is_volatile = is_volatile_field(x.find_field(name));
+            broken_if(!is_volatile, Rule::ApprovalForm, *span)
+        }
+        _ => None,
+    }
+}
+
+/// What a member breaks, if it is an approval.
+fn member_misapproval<'a>(x: &StructEntry<'a>, member: &Member) -> Option<Violation>
+    ensures { maybe_broken result ≡ spec.misapprovals (view.struct x.now.tree.now) (view.member member.now ∷ []) }
+{
+    match member {
+        Member::Field(_) => None,
+        Member::Invariant(invariant) => misapproval(x, &invariant.property),
+    }
+}
+
+/// The first of the members that are approvals of something else than a volatile field of the struct.
+fn misapprovals<'a>(x: &StructEntry<'a>, members: &[Member]) -> Option<Violation>
+    ensures { maybe_broken result ≡ spec.misapprovals (view.struct x.now.tree.now) (map view.member members.now) }
+{
+    let mut so_far: Option<Violation> = None;
+    for member in members {
+        so_far = earlier(so_far, member_misapproval(x, member));
+    }
+    so_far
+}
+
 /// The first rule of its own that a struct breaks.
 fn own_breaks<'a>(alloc: Global, x: &StructEntry<'a>) -> Result<Option<Violation>, AllocError>
     ensures { IfOk result (λ b. maybe_broken b ≡ spec.struct_own (view.struct x.now.tree.now)) }
@@ -59,7 +95,8 @@ fn own_breaks<'a>(alloc: Global, x: &StructEntry<'a>) -> Result<Option<Violation
         Rule::StructForm,
         x.tree.name.span,
     );
-    Ok(earlier(twice, form))
+    let approvals = misapprovals(x, &x.tree.members);
+    Ok(earlier(twice, earlier(form, approvals)))
 }
 
 /// The first rule that a struct breaks, itself or in its members.

@@ -3,6 +3,8 @@ use Rattle.std.specs.Prelude.{Bool, not, ◌&&◌, ◌==◌, List, [], ◌∷◌
 use Rattle.c_syntax.specs.declared.token.Span.{Span}
 use Rattle.c_syntax.specs.declared.tree.SpecFunction.{SpecFunction}
 use Rattle.c_syntax.specs.declared.tree.SpecFunction.TheVariants as f
+use Rattle.c_syntax.specs.declared.tree.ListWord.{ListWord}
+use Rattle.c_syntax.specs.declared.tree.ListWord.TheVariants as lists
 use Rattle.c_syntax.specs.Expressions as e
 use Rattle.c_syntax.specs.Expressions.{Ty, Exp, Exps, CallTree, Rhs, Effect}
 use Rattle.c_syntax.specs.Ghosts as g
@@ -37,6 +39,12 @@ as_claim = to (Some Claim)
 abbrev pub as_references : Context → Exps → List Use
 as_references c e.Stop = []
 as_references c (e.With x xs) = as_reference c x ∷ as_references c xs
+
+-- `\mine` takes references, `\claims_only` a claim and references
+abbrev pub list_uses : ListWord → Context → Exps → List Use
+list_uses lists.Mine c xs = as_references c xs
+list_uses lists.ClaimsOnly c e.Stop = []
+list_uses lists.ClaimsOnly c (e.With x xs) = as_claim c x ∷ as_references c xs
 
 abbrev pub argument_uses : SpecFunction → Context → Exp → List Use
 argument_uses f.Old c x = []
@@ -84,7 +92,7 @@ return_uses c (Some ty) x = to (kind_of c.scope.items ty) c x ∷ []
 -- the values of a piece that have to convert
 abbrev pub uses : Piece → List Use
 uses (Expression c (e.Apply p h x)) = argument_uses h c x
-uses (Expression c (e.Mine p xs)) = as_references c xs
+uses (Expression c (e.Several p w xs)) = list_uses w c xs
 uses (Expression c (e.ClaimsObject p x y)) = as_claim c x ∷ as_reference c y ∷ []
 uses (Expression c (e.Claims p x y)) = as_claim c x ∷ []
 uses (WritesItem c x) = written_uses c x

@@ -51,7 +51,7 @@ mutual
       appended (expression d x) (expression d y ++ expression d z) (part_pieces d x (below d x) (below_pieces d x))
       (appended (expression d y) (expression d z) (part_pieces d y (below d y) (below_pieces d y)) (part_pieces d z (below d z) (below_pieces d z)))
   below_pieces c (e.Apply p h x) = part_pieces (argument h c) x (below (argument h c) x) (below_pieces (argument h c) x)
-  below_pieces c (e.Mine p xs) = each_pieces (deeper c) xs
+  below_pieces c (e.Several p w xs) = each_pieces (deeper c) xs
   below_pieces c (e.ClaimsObject p x y) =
       let d = deeper c in
       appended (expression d x) (expression d y) (part_pieces d x (below d x) (below_pieces d x)) (part_pieces d y (below d y) (below_pieces d y))
@@ -59,6 +59,7 @@ mutual
       let d = deeper c in
       let k = inside_claims c in
       appended (expression d x) (expression k y) (part_pieces d x (below d x) (below_pieces d x)) (part_pieces k y (below k y) (below_pieces k y))
+  below_pieces c (e.Approves p x) = refl
   below_pieces c (e.Quantified p q ty x y) =
       let d = with_quantified ty x (deeper c) in
       appended (struct_name c.scope.items ty) (expression d y) (type_pieces c.scope.items ty) (part_pieces d y (below d y) (below_pieces d y))

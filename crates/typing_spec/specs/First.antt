@@ -14,6 +14,7 @@ use Rattle.typing_spec.specs.Ownership.{owns_change, wrap_operand, claimed}
 use Rattle.typing_spec.specs.SpecWords.{invariant_reads, old_place, result_place, this_place}
 use Rattle.typing_spec.specs.Properties.{quantifier_form, property_form}
 use Rattle.typing_spec.specs.Functions.{return_form, spawned_value, struct_form, no_main}
+use Rattle.typing_spec.specs.Approval.{approval_form}
 
 -- the places at which a piece breaks a rule; that there is no `main` is no piece's fault
 abbrev pub places : Rule → Piece → List Span
@@ -41,6 +42,7 @@ places r.ReturnForm = return_form
 places r.SpawnedValue = spawned_value
 places r.StructForm = struct_form
 places r.NoMain = λ x. []
+places r.ApprovalForm = approval_form
 
 -- the places at which a program breaks a rule, where its text ends at the last place
 abbrev pub broken_at : List Item → Span → Rule → List Span

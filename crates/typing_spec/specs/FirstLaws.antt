@@ -204,9 +204,9 @@ to_all_at rule (q ∷ ps) p c =
 
 -- each rule is one of all
 listed : (x : Rule) → Contains all_rules x
-listed x = (number x - 1, ltb-true (number x - 1) 24 (low x), at x)
+listed x = (number x - 1, ltb-true (number x - 1) 25 (low x), at x)
   where
-    low : (y : Rule) → nat_lt (number y - 1) 24 ≡ true
+    low : (y : Rule) → nat_lt (number y - 1) 25 ≡ true
     low r.Undeclared = refl
     low _ = refl
 

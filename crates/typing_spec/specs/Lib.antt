@@ -27,3 +27,5 @@ pub mod GhostRows
 pub mod OwnershipRows
 pub mod SpecRows
 pub mod ProgramRows
+pub mod Approval
+pub mod ApprovalRows

@@ -1,5 +1,5 @@
 -- The pieces of a program, each with what stands around it, in the order of the text; an expression stands behind its parts. Scopes are from ISO/IEC 9899 6.2.1: a variable is known from behind its declaration to the end of its block. Own: a ghost statement's braces are a block, and a branch or a loop's body is one by itself.
-use Rattle.std.specs.Prelude.{Bool, true, false, ◌||◌, List, [], ◌∷◌, ◌++◌, Option, Some, None, flat_map}
+use Rattle.std.specs.Prelude.{Bool, true, false, ◌||◌, if◌then◌else◌, List, [], ◌∷◌, ◌++◌, Option, Some, None, flat_map}
 use Rattle.c_syntax.specs.declared.token.Span.{Span}
 use Rattle.c_syntax.specs.declared.tree.BinaryOperator.{BinaryOperator}
 use Rattle.c_syntax.specs.declared.tree.BinaryOperator.TheVariants as op
@@ -15,6 +15,7 @@ use Rattle.c_syntax.specs.Statements as st
 use Rattle.c_syntax.specs.Statements.{Inv, Stm, Stms}
 use Rattle.c_syntax.specs.Items as i
 use Rattle.c_syntax.specs.Items.{Written, Clause, Param, FunctionTree, FieldTree, Member, StructTree, Item}
+use Rattle.typing_spec.specs.Declarations.{is_approval}
 use Rattle.typing_spec.specs.Contexts as texts
 use Rattle.typing_spec.specs.Contexts.{Text, InProperty, Outside, Conjunct, Variable, Context, with_text, with_variable, with_quantified, ghost, part_of, deeper, inside_claims, inside_atomic, inside_unwrapping}
 
@@ -77,9 +78,10 @@ abbrev mutual
   below c (e.Binary p o x y) = part (operand o c) x (below (operand o c) x) ++ part (operand o c) y (below (operand o c) y)
   below c (e.Conditional p x y z) = part (deeper c) x (below (deeper c) x) ++ (part (deeper c) y (below (deeper c) y) ++ part (deeper c) z (below (deeper c) z))
   below c (e.Apply p h x) = part (argument h c) x (below (argument h c) x)
-  below c (e.Mine p xs) = each_below (deeper c) xs
+  below c (e.Several p w xs) = each_below (deeper c) xs
   below c (e.ClaimsObject p x y) = part (deeper c) x (below (deeper c) x) ++ part (deeper c) y (below (deeper c) y)
   below c (e.Claims p x y) = part (deeper c) x (below (deeper c) x) ++ part (inside_claims c) y (below (inside_claims c) y)
+  below c (e.Approves p x) = []
   below c (e.Quantified p q ty x y) = struct_name c.scope.items ty ++ part (with_quantified ty x (deeper c)) y (below (with_quantified ty x (deeper c)) y)
 
   pub each_below : Context → Exps → List Piece
@@ -243,9 +245,10 @@ function items h =
 abbrev pub in_struct : List Item → StructTree → Context
 in_struct items s = record (nowhere items) { scope = record { items = items; variables = []; this = Some s; result = None }; text = texts.TypeInvariant }
 
+-- an invariant that approves a field has no pieces: the struct itself is judged for it
 abbrev pub member : List Item → StructTree → Member → List Piece
 member items s (i.Field x) = struct_name items x.ty
-member items s (i.Invariant x) = expression (in_struct items s) x.property
+member items s (i.Invariant x) = if is_approval x.property then [] else expression (in_struct items s) x.property
 
 abbrev pub item : List Item → Item → List Piece
 item items (i.Struct s) = Struct items s ∷ flat_map (member items s) s.members

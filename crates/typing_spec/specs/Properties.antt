@@ -14,7 +14,7 @@ use Rattle.typing_spec.specs.Contexts.{InProperty, Outside, Conjunct, Below}
 use Rattle.typing_spec.specs.Trees.{bare, is_name, mentions, same_tree}
 use Rattle.typing_spec.specs.Pieces.{Piece, Expression}
 use Rattle.typing_spec.specs.Places.{place_if, places_if}
-use Rattle.typing_spec.specs.SpecWords.{is_type_invariant, status_words, is_property}
+use Rattle.typing_spec.specs.SpecWords.{is_type_invariant, status_words, is_property, is_mine}
 
 -- ---- rule 16
 
@@ -59,10 +59,11 @@ quantifier_form _ = []
 
 -- ---- rule 20
 
--- what no property holds: quantifiers, owned sets and statuses
+-- what no property holds: quantifiers, owned sets, exact claimed sets and statuses
 abbrev pub never_held : Exp → List Span
 never_held (e.Quantified p k ty n x) = p ∷ []
 never_held (e.Owns p x w) = w ∷ []
+never_held (e.Several p w xs) = place_if (not (is_mine w)) p
 never_held x = status_words x
 
 -- the object, where it isn't one of those that are claimed
@@ -80,7 +81,7 @@ abbrev pub not_held : InProperty → Exp → List Span
 not_held property (e.State p x w statuses.Closed) = closed_held property x w
 not_held property x = places_if (is_property property) (never_held x)
 
--- Rule 20: a claim's property, or the second argument of `\claims`, holds a quantifier, `\owns`, or a status other than `o->\closed` as a whole conjunct, at that word; or, in a claim's property, such an o that isn't written among the claimed objects, at the o. Own.
+-- Rule 20: a claim's property, or the second argument of `\claims`, holds a quantifier, `\owns`, `\claims_only`, or a status other than `o->\closed` as a whole conjunct, at that word; or, in a claim's property, such an o that isn't written among the claimed objects, at the o. Own.
 abbrev pub property_form : Piece → List Span
 property_form (Expression c x) = not_held c.property x
 property_form _ = []

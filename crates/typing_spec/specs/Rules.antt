@@ -50,6 +50,8 @@ pub data Rule : Type 0 where
   StructForm : Rule
   -- there is no `main`
   NoMain : Rule
+  -- `\approves` is out of place or of form
+  ApprovalForm : Rule
 
 abbrev pub number : Rule → ℕ
 number Undeclared = 1
@@ -76,7 +78,8 @@ number ReturnForm = 21
 number SpawnedValue = 22
 number StructForm = 23
 number NoMain = 24
+number ApprovalForm = 25
 
 abbrev pub all_rules : List Rule
 all_rules =
-    Undeclared ∷ DeclaredTwice ∷ Operands ∷ Conversion ∷ ArgumentCount ∷ Arrow ∷ GhostInCode ∷ GhostWrites ∷ InAtomic ∷ SecondAccess ∷ InterlockedCall ∷ OwnsChange ∷ WrapOperand ∷ Claimed ∷ InvariantReads ∷ QuantifierForm ∷ OldPlace ∷ ResultPlace ∷ ThisPlace ∷ PropertyForm ∷ ReturnForm ∷ SpawnedValue ∷ StructForm ∷ NoMain ∷ []
+    Undeclared ∷ DeclaredTwice ∷ Operands ∷ Conversion ∷ ArgumentCount ∷ Arrow ∷ GhostInCode ∷ GhostWrites ∷ InAtomic ∷ SecondAccess ∷ InterlockedCall ∷ OwnsChange ∷ WrapOperand ∷ Claimed ∷ InvariantReads ∷ QuantifierForm ∷ OldPlace ∷ ResultPlace ∷ ThisPlace ∷ PropertyForm ∷ ReturnForm ∷ SpawnedValue ∷ StructForm ∷ NoMain ∷ ApprovalForm ∷ []

@@ -5,6 +5,8 @@ use Rattle.c_syntax.specs.declared.tree.Constant.TheVariants as constants
 use Rattle.c_syntax.specs.declared.tree.Status.TheVariants as statuses
 use Rattle.c_syntax.specs.declared.tree.SpecFunction.{SpecFunction}
 use Rattle.c_syntax.specs.declared.tree.SpecFunction.TheVariants as f
+use Rattle.c_syntax.specs.declared.tree.ListWord.{ListWord}
+use Rattle.c_syntax.specs.declared.tree.ListWord.TheVariants as lists
 use Rattle.c_syntax.specs.Expressions as e
 use Rattle.c_syntax.specs.Expressions.{Exp}
 use Rattle.typing_spec.specs.Contexts.{Text, TypeInvariant, Requires, Ensures, Maintains, Writes, ClaimProperty, InProperty, Outside, Context}
@@ -73,8 +75,12 @@ abbrev pub result_place : Piece → List Span
 result_place (Expression c (e.Word p constants.Result)) = place_if (not (is_ensures c.text && is_some c.value)) p
 result_place _ = []
 
+abbrev pub is_mine : ListWord → Bool
+is_mine lists.Mine = true
+is_mine lists.ClaimsOnly = false
+
 -- Rule 19: `\this` or `\mine` outside a type's invariant, at the word. VCC manual.
 abbrev pub this_place : Piece → List Span
 this_place (Expression c (e.Word p constants.This)) = place_if (not (is_type_invariant c.text)) p
-this_place (Expression c (e.Mine p xs)) = place_if (not (is_type_invariant c.text)) p
+this_place (Expression c (e.Several p w xs)) = place_if (is_mine w && not (is_type_invariant c.text)) p
 this_place _ = []

@@ -12,6 +12,8 @@ use Rattle.c_syntax.specs.declared.tree.BinaryOperator.{BinaryOperator}
 use Rattle.c_syntax.specs.declared.tree.BinaryOperator.TheVariants as op
 use Rattle.c_syntax.specs.declared.tree.SpecFunction.{SpecFunction}
 use Rattle.c_syntax.specs.declared.tree.SpecFunction.TheVariants as f
+use Rattle.c_syntax.specs.declared.tree.ListWord.{ListWord}
+use Rattle.c_syntax.specs.declared.tree.ListWord.TheVariants as lists
 use Rattle.c_syntax.specs.declared.tree.Quantifier.{Quantifier}
 use Rattle.c_syntax.specs.declared.tree.Quantifier.TheVariants as q
 use Rattle.c_syntax.specs.Expressions as e
@@ -43,9 +45,10 @@ abbrev mutual
   mentions n (e.Binary p o x y) = mentions n x || mentions n y
   mentions n (e.Conditional p x y z) = mentions n x || (mentions n y || mentions n z)
   mentions n (e.Apply p g x) = mentions n x
-  mentions n (e.Mine p xs) = any_mentions n xs
+  mentions n (e.Several p w xs) = any_mentions n xs
   mentions n (e.ClaimsObject p x y) = mentions n x || mentions n y
   mentions n (e.Claims p x y) = mentions n x || mentions n y
+  mentions n (e.Approves p x) = false
   mentions n (e.Quantified p k ty x y) = not (same_name n x) && mentions n y
 
   pub any_mentions : Id → Exps → Bool
@@ -103,6 +106,10 @@ function_number f.WrappedUnclaimed = 4
 function_number f.Mutable = 5
 function_number f.Fresh = 6
 
+abbrev pub list_word_number : ListWord → ℕ
+list_word_number lists.Mine = 1
+list_word_number lists.ClaimsOnly = 2
+
 abbrev pub quantifier_number : Quantifier → ℕ
 quantifier_number q.ForAll = 1
 quantifier_number q.Exists = 2
@@ -155,9 +162,9 @@ abbrev pub if_apply : (SpecFunction → Exp → Bool) → Exp → Bool
 if_apply h (e.Apply p g x) = h g x
 if_apply h _ = false
 
-abbrev pub if_mine : (Exps → Bool) → Exp → Bool
-if_mine h (e.Mine p xs) = h xs
-if_mine h _ = false
+abbrev pub if_several : (ListWord → Exps → Bool) → Exp → Bool
+if_several h (e.Several p w xs) = h w xs
+if_several h _ = false
 
 abbrev pub if_claims_object : (Exp → Exp → Bool) → Exp → Bool
 if_claims_object h (e.ClaimsObject p x y) = h x y
@@ -166,6 +173,10 @@ if_claims_object h _ = false
 abbrev pub if_claims : (Exp → Exp → Bool) → Exp → Bool
 if_claims h (e.Claims p x y) = h x y
 if_claims h _ = false
+
+abbrev pub if_approves : (Id → Bool) → Exp → Bool
+if_approves h (e.Approves p x) = h x
+if_approves h _ = false
 
 abbrev pub if_quantified : (Quantifier → Ty → Id → Exp → Bool) → Exp → Bool
 if_quantified h (e.Quantified p k ty x y) = h k ty x y
@@ -194,9 +205,10 @@ abbrev mutual
   same_tree (e.Binary p o a b) y = if_binary (λ u c d. (binary_number o == binary_number u) && (same_tree a c && same_tree b d)) (bare y)
   same_tree (e.Conditional p a b c) y = if_conditional (λ d f g. same_tree a d && (same_tree b f && same_tree c g)) (bare y)
   same_tree (e.Apply p g x) y = if_apply (λ h z. (function_number g == function_number h) && same_tree x z) (bare y)
-  same_tree (e.Mine p xs) y = if_mine (same_row xs) (bare y)
+  same_tree (e.Several p w xs) y = if_several (λ v ys. (list_word_number w == list_word_number v) && same_row xs ys) (bare y)
   same_tree (e.ClaimsObject p a b) y = if_claims_object (λ c d. same_tree a c && same_tree b d) (bare y)
   same_tree (e.Claims p a b) y = if_claims (λ c d. same_tree a c && same_tree b d) (bare y)
+  same_tree (e.Approves p x) y = if_approves (same_name x) (bare y)
   same_tree (e.Quantified p k ty x b) y = if_quantified (λ l u z d. (quantifier_number k == quantifier_number l) && (same_type ty u && (same_name x z && same_tree b d))) (bare y)
 
   pub same_row : Exps → Exps → Bool

@@ -251,7 +251,7 @@ mutual
       (not_placed _ p (quiet_last (expression d x ++ (expression d y ++ expression d z)) (Expression c (e.Conditional p x y z)) q r.Operands))
   expression_typed c all placed (e.Apply p h x) q =
       apply_typed c.scope.items h (kind c.scope x) (expression_typed (argument h c) all placed x (quiet_left (expression (argument h c) x) (Expression c (e.Apply p h x) ∷ []) q))
-  expression_typed c all placed (e.Mine p xs) q = expressions_typed (deeper c) all placed xs (quiet_left (each_below (deeper c) xs) (Expression c (e.Mine p xs) ∷ []) q)
+  expression_typed c all placed (e.Several p w xs) q = expressions_typed (deeper c) all placed xs (quiet_left (each_below (deeper c) xs) (Expression c (e.Several p w xs) ∷ []) q)
   expression_typed c all placed (e.ClaimsObject p x y) q =
       let d = deeper c in
       let inner = quiet_left (expression d x ++ expression d y) (Expression c (e.ClaimsObject p x y) ∷ []) q in
@@ -260,6 +260,7 @@ mutual
       let inner = quiet_left (expression (deeper c) x ++ expression (inside_claims c) y) (Expression c (e.Claims p x y) ∷ []) q in
       both_typed c.scope.items (kind c.scope x) (kind c.scope y) (expression_typed (deeper c) all placed x (quiet_left (expression (deeper c) x) (expression (inside_claims c) y) inner))
       (expression_typed (inside_claims c) all placed y (quiet_right (expression (deeper c) x) (expression (inside_claims c) y) inner))
+  expression_typed c all placed (e.Approves p x) q = tt
   expression_typed c all placed (e.Quantified p k ty x y) q =
       let d = with_quantified ty x (deeper c) in
       let inner = quiet_left (struct_name c.scope.items ty ++ expression d y) (Expression c (e.Quantified p k ty x y) ∷ []) q in

@@ -187,9 +187,10 @@ abbrev mutual
   kind here (e.Binary p o x y) = option_and_then (λ k. option_and_then (λ l. only_if (binary_fits o k l) Integer) (kind here y)) (kind here x)
   kind here (e.Conditional p x y z) = option_and_then (λ t. option_and_then (λ k. option_and_then (conditional_kind t k) (kind here z)) (kind here y)) (kind here x)
   kind here (e.Apply p g x) = option_map (function_kind g) (kind here x)
-  kind here (e.Mine p xs) = kinds here xs
+  kind here (e.Several p w xs) = kinds here xs
   kind here (e.ClaimsObject p x y) = truth_of_both (kind here x) (kind here y)
   kind here (e.Claims p x y) = truth_of_both (kind here x) (kind here y)
+  kind here (e.Approves p x) = Some Integer
   kind here (e.Quantified p q ty x y) = truth (kind (quantified ty x here) y)
 
   -- the truth of a statement about all of these

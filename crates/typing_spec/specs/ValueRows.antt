@@ -30,6 +30,8 @@ operands =
     types "struct A { int v ; struct A * n ; } ; void main ( struct A * p ) { _( assert NULL \\in p -> \\owns ) }" ∷
     types "void main ( ) { _( assert \\true + 1 == 2 ) }" ∷
     breaks 3 "struct A { volatile int v ; } ; void main ( struct A * p , int x ) { _( atomic p ) { x = InterlockedIncrement ( & p -> v )" "== p ; } }" ∷
+    breaks 3 "struct A { volatile int v ; } ; void main ( struct A * p , struct A * q ) { _( atomic p ) { q = InterlockedExchange ( & p -> v , 1 )" "== q ; } }" ∷
+    breaks 1 "struct A { volatile int v ; } ; void main ( struct A * p , struct A * q ) { _( atomic p ) { q = InterlockedExchange ( & p -> v , 1 ) !=" "nosuch ; } }" ∷
     types "struct A { volatile int v ; } ; void main ( struct A * p , int x ) { _( atomic p ) { x = InterlockedIncrement ( & p -> v ) == 1 ; } }" ∷
     []
 

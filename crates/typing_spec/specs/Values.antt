@@ -1,15 +1,16 @@
 -- What right sides, calls and allocations give. From ISO/IEC 9899 6.5.2.2 and 7.22.3.4 and the VCC manual.
 use Rattle.std.specs.Prelude.{List, Option, Some, None, option_and_then, option_map}
 use Rattle.c_syntax.specs.declared.token.Span.{Span}
+use Rattle.c_syntax.specs.declared.tree.BinaryOperator.TheVariants as op
 use Rattle.c_syntax.specs.Expressions as e
-use Rattle.c_syntax.specs.Expressions.{Id, Ty, Exp, Inter, CallTree, Rhs}
+use Rattle.c_syntax.specs.Expressions.{Id, Ty, Exp, Inter, Comparison, CallTree, Rhs}
 use Rattle.c_syntax.specs.Ghosts as g
 use Rattle.c_syntax.specs.Ghosts.{GhostRhs}
 use Rattle.c_syntax.specs.Grammar.{first_place}
 use Rattle.c_syntax.specs.Items.{FieldTree, Item}
 use Rattle.typing_spec.specs.Declarations.{find_struct, find_function}
 use Rattle.typing_spec.specs.Contexts.{Scope}
-use Rattle.typing_spec.specs.Types.{Kind, Integer, Pointer, Claim, Void, is_integer, only_if, kind_of, field_of, kind}
+use Rattle.typing_spec.specs.Types.{Kind, Integer, Pointer, Claim, Void, is_integer, only_if, binary_fits, kind_of, field_of, kind}
 
 -- the field that `x->f` names
 abbrev pub field_named : Scope → Exp → Option FieldTree
@@ -35,11 +36,16 @@ abbrev pub malloc_kind : List Item → Option Id → Id → Option Kind
 malloc_kind items (Some x) y = struct_pointer items x
 malloc_kind items None y = struct_pointer items y
 
+-- an Interlocked call with the `==` or `!=` behind it; the kind is open where the two don't compare
+abbrev pub compared_kind : Scope → Option Kind → Option Comparison → Option Kind
+compared_kind here k None = k
+compared_kind here k (Some y) = option_and_then (λ a. option_and_then (λ b. only_if (binary_fits op.Equal a b) Integer) (kind here y.other)) k
+
 -- what a right side gives, and where it stands
 abbrev pub right_kind : Scope → Rhs → Option Kind
 right_kind here (e.Value x) = kind here x
 right_kind here (e.Malloc x p y) = malloc_kind here.items x y
-right_kind here (e.Locked x y) = interlocked_kind here x
+right_kind here (e.Locked x y) = compared_kind here (interlocked_kind here x) y
 right_kind here (e.Called x) = call_kind here x
 
 abbrev pub right_place : Rhs → Span

@@ -1,7 +1,8 @@
 -- Functions and structs, part by part.
 use Rattle.std.proofs.Common.{◌≡◌, refl, ◌∙◌, ap, append-nil, Bool, true, false, List, [], ◌∷◌, ◌++◌, None}
-use Rattle.std.specs.Prelude.{flat_map}
+use Rattle.std.specs.Prelude.{flat_map, if◌then◌else◌}
 use Rattle.c_syntax.specs.Items.{FunctionTree, StructTree, Member}
+use Rattle.typing_spec.specs.Declarations.{is_approval}
 use Rattle.typing_spec.specs.Pieces as pieces
 use Rattle.typing_spec.specs.Pieces.{with_params, in_function, in_struct, if_some, struct_name, types_of, clause, in_statements}
 use Rattle.std.proofs.lemmas.Grind.{flat_map-append}
@@ -11,9 +12,9 @@ use Rattle.c_syntax.specs.Items.{Written, Param, Item}
 use Rattle.typing_spec.specs.Contexts.{Context, Variable}
 use Rattle.typing_spec.specs.Pieces.{Piece, WritesItem, expression, written}
 use Rattle.typing_spec.specs.Conversions.{as_reference}
-use Rattle.typing_expressions.specs.Violations.{violations, breaking, joined}
+use Rattle.typing_expressions.specs.Violations.{violations, nothing, breaking, joined}
 use Rattle.typing_expressions.specs.Judging.{unconverted}
-use Rattle.typing_expressions.proofs.FoundLaws.{found_append}
+use Rattle.typing_expressions.proofs.FoundLaws.{found_none, found_append}
 use Rattle.typing_expressions.proofs.Judgements.{own, own_type}
 use Rattle.typing_statements.specs.Views.{Fixed, within}
 use Rattle.typing_statements.specs.Parts.{listed, listed_pieces, listed_found, with_parameters, body_of, function_parts, in_member, member_found}
@@ -61,10 +62,15 @@ function_found items h =
     (found_append (types_of items h.ghost_parameters) _ ∙ ap (joined (violations (types_of items h.ghost_parameters)))
     (found_append (flat_map (clause c) h.contract) (in_statements c h.body.all))))
 
+-- an invariant that has no pieces where it is an approval
+unless_approval : (b : Bool) (ps : List Piece) → violations (if b then [] else ps) ≡ (if b then nothing else violations ps)
+unless_approval true ps = found_none
+unless_approval false ps = refl
+
 -- a member of a struct
 pub member_is : (c : Context) (x : Member) → violations (in_member c x) ≡ member_found c x
 member_is c (i.Field x) = own_type c.scope.items x.ty
-member_is c (i.Invariant x) = refl
+member_is c (i.Invariant x) = unless_approval (is_approval x.property) (expression c x.property)
 
 same_member : (items : List Item) (s : StructTree) (x : Member) → in_member (in_struct items s) x ≡ pieces.member items s x
 same_member items s (i.Field x) = refl

@@ -17,7 +17,7 @@ use Rattle.typing_spec.specs.ExpressionPieces.{is_of_expression, expression_piec
 use Rattle.typing_spec.specs.Types.{is_pointer, kind_of, kind, find_variable, converts}
 use Rattle.typing_spec.specs.Rules as r
 use Rattle.typing_spec.specs.Rules.{Rule}
-use Rattle.typing_spec.specs.Pieces.{Piece, Expression, expression, Called, Allocation, Interlocked, Assigned, NewClaim, Statement, GhostStatement, StructName, in_statements}
+use Rattle.typing_spec.specs.Pieces.{Piece, expression, Called, Allocation, Interlocked, Assigned, NewClaim, Statement, GhostStatement, StructName, in_statements}
 use Rattle.typing_spec.specs.Places.{place_if, places_if, fails, fail_together}
 use Rattle.typing_spec.specs.Conversions.{Use, to, as_reference, as_claim, right_use, ghost_right_use, call_uses, effect_uses, owns_uses, return_uses, count_fault, counts_match}
 use Rattle.typing_spec.specs.Values.{field_named, interlocked_kind, struct_pointer}

@@ -12,7 +12,7 @@ use Rattle.typing_expressions.specs.Judging.{unconverted}
 use Rattle.typing_expressions.proofs.Rows.{unconverted_append}
 use Rattle.typing_statements.specs.Views.{Values, values, RightSide, right_side}
 use Rattle.typing_spec.specs.Types.{Kind, kind}
-use Rattle.typing_spec.specs.Values.{interlocked_kind}
+use Rattle.typing_spec.specs.Values.{interlocked_kind, compared_kind}
 use Rattle.typing_spec.specs.Rules as r
 use Rattle.typing_spec.specs.Operands.{effect_misfit}
 use Rattle.typing_expressions.specs.Violations.{Judged, judge, broken_if}
@@ -91,16 +91,16 @@ comparison_same : (c : Context) (x : Inter) (y : Option Comparison) → b.compar
 comparison_same c x None = refl
 comparison_same c x (Some y) = refl
 
-pub locked_of : (c : Context) (x : Inter) (y : Option Comparison) (f : Judged) (k : Option Kind) (a : Values) (inner : Violations) (un o : Option Fault)
-    → f ≡ judge c x.field → k ≡ b.integer_of f.kind → a ≡ values c x.arguments (map (to k c) x.arguments) → inner ≡ violations (compared c y) → un ≡ b.comparison_of c k y
-    → o ≡ earlier un (earlier a.unconverted (broken_if (b.is_out_of_form c x) r.InterlockedCall x.place)) → side k x.place (joined (breaking o) (joined f.violations (joined a.violations inner))) ≡ right_side c (e.Locked x y)
-locked_of c x y f k a inner un o ef ek ea ei eu eo =
+pub locked_of : (c : Context) (x : Inter) (y : Option Comparison) (f : Judged) (k g : Option Kind) (a : Values) (inner : Violations) (un o : Option Fault)
+    → f ≡ judge c x.field → k ≡ b.integer_of f.kind → g ≡ compared_kind c.scope k y → a ≡ values c x.arguments (map (to k c) x.arguments) → inner ≡ violations (compared c y) → un ≡ b.comparison_of c k y
+    → o ≡ earlier un (earlier a.unconverted (broken_if (b.is_out_of_form c x) r.InterlockedCall x.place)) → side g x.place (joined (breaking o) (joined f.violations (joined a.violations inner))) ≡ right_side c (e.Locked x y)
+locked_of c x y f k g a inner un o ef ek eg ea ei eu eo =
     let kinds : k ≡ interlocked_kind c.scope x = ek ∙ ap (λ (j : Judged). b.integer_of j.kind) ef in
     let args : a ≡ values c x.arguments (map (to (interlocked_kind c.scope x) c) x.arguments) = ea ∙ ap (λ (q : Option Kind). values c x.arguments (map (to q c) x.arguments)) kinds in
     let first : un ≡ b.comparison_breaks c x y = eu ∙ (ap (λ (q : Option Kind). b.comparison_of c q y) kinds ∙ comparison_same c x y) in
     let tail = broken_if (b.is_out_of_form c x) r.InterlockedCall x.place in
     let own : o ≡ b.interlocked_breaks c x y = eo ∙ (ap (λ (u : Option Fault). earlier u (earlier a.unconverted tail)) first ∙ ap (λ (v : Values). earlier (b.comparison_breaks c x y) (earlier v.unconverted tail)) args) in
-    side_at x.place kinds
+    side_at x.place (eg ∙ ap (λ (q : Option Kind). compared_kind c.scope q y) kinds)
     (ap (λ (u : Option Fault). joined (breaking u) (joined f.violations (joined a.violations inner))) own
     ∙ (ap (λ (j : Judged). joined (breaking (b.interlocked_breaks c x y)) (joined j.violations (joined a.violations inner))) ef
     ∙ (ap (λ (v : Values). joined (breaking (b.interlocked_breaks c x y)) (joined (violations (expression c x.field)) (joined v.violations inner))) args

@@ -1,9 +1,10 @@
 -- What functions and structs are made of, in the words of the code: own. Each is proved to be what the pieces of a program say (proofs/Items).
-use Rattle.std.specs.Prelude.{Bool, false, List, [], ◌∷◌, ◌++◌, Option, Some, flat_map}
+use Rattle.std.specs.Prelude.{Bool, false, List, [], ◌∷◌, ◌++◌, Option, Some, flat_map, if◌then◌else◌}
 use Rattle.c_syntax.specs.Expressions.{Ty, Exp}
 use Rattle.c_syntax.specs.Grammar.{first_place}
 use Rattle.c_syntax.specs.Items as i
 use Rattle.c_syntax.specs.Items.{Written, Param, FunctionTree, Member, Item}
+use Rattle.typing_spec.specs.Declarations.{is_approval}
 use Rattle.typing_spec.specs.Contexts as c
 use Rattle.typing_spec.specs.Contexts.{Context, Variable}
 use Rattle.typing_spec.specs.Types.{Object, kind, converts}
@@ -12,7 +13,7 @@ use Rattle.typing_spec.specs.Pieces as pieces
 use Rattle.typing_spec.specs.Pieces.{Piece, WritesItem, expression, clause, if_some, struct_name, types_of, in_function, in_statements}
 use Rattle.typing_spec.specs.Rules as r
 use Rattle.typing_expressions.specs.Judging.{type_breaks}
-use Rattle.typing_expressions.specs.Violations.{Violations, violations, breaking, joined, broken_if}
+use Rattle.typing_expressions.specs.Violations.{Violations, violations, nothing, breaking, joined, broken_if}
 use Rattle.typing_statements.specs.Views.{Fixed}
 
 -- the expression of an item of a writes list
@@ -45,8 +46,8 @@ function_parts items h =
 -- a member of a struct, in what stands around the struct's invariants
 abbrev pub in_member : Context → Member → List Piece
 in_member c (i.Field x) = struct_name c.scope.items x.ty
-in_member c (i.Invariant x) = expression c x.property
+in_member c (i.Invariant x) = if is_approval x.property then [] else expression c x.property
 
 abbrev pub member_found : Context → Member → Violations
 member_found c (i.Field x) = breaking (type_breaks c.scope.items x.ty)
-member_found c (i.Invariant x) = violations (expression c x.property)
+member_found c (i.Invariant x) = if is_approval x.property then nothing else violations (expression c x.property)

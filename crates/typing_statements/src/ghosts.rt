@@ -33,13 +33,14 @@ use typing_expressions::violations::{Diagnostics, Violation, broken_if, earlier}
 use typing_expressions::words::type_breaks;
 
 /// References in a row.
+#[tactic(auto, using(typing_expressions::proofs::Rows::reference_uses))]
 pub fn references<'s, 'a>(context: Context<'s, 'a>, all: &'a [Expr]) -> Passed
     ensures { values_of result ≡ values_found (pieces.expressions (around context.entry) (view.exps all.now)) (map (uses.as_reference (around context.entry)) (view.exps all.now)) }
 {
-    let violations = row(context, all);
+    let judged = row(context, Kind::Object, all);
     Passed {
-        violations: violations.violations,
-        unconverted: violations.unconverted,
+        violations: judged.violations,
+        unconverted: judged.unconverted,
     }
 }
 

@@ -28,7 +28,7 @@ use typing_expressions::arrows::field_found;
 use typing_expressions::context::Context;
 use typing_expressions::expressions::expression;
 use typing_expressions::forms::first_place;
-use typing_expressions::judged::misfit;
+use typing_expressions::judged::{Judged, binary_kind, misfit};
 use typing_expressions::kinds::Kind;
 use typing_expressions::lookups::{is_no_struct, kind_of};
 use typing_expressions::rule::Rule;
@@ -198,24 +198,33 @@ fn interlocked_kind<'s, 'a>(field: Option<Kind<'s, 'a>>) -> Option<Kind<'s, 'a>>
     }
 }
 
-/// What breaks in what an Interlocked call is compared with, and what the comparison breaks with a value of this kind.
+/// What an Interlocked call of this kind gives with what it is compared with and what breaks in that; and what the comparison
+/// breaks.
 fn comparison<'s, 'a>(
     context: Context<'s, 'a>,
     kind: Option<Kind<'s, 'a>>,
     compared: &'a Option<Compared>,
-) -> (Diagnostics, Option<Violation>)
-    ensures inner { findings result.0 ≡ violations (pieces.compared (around context.entry) (option_map view.comparison compared.now)) }
+) -> (Judged<'s, 'a>, Option<Violation>)
+    ensures gives { maybe_kind result.0.kind ≡ given_by.compared_kind (around context.entry).scope (maybe_kind kind.entry) (option_map view.comparison compared.now) }
+    ensures inner { findings result.0.violations ≡ violations (pieces.compared (around context.entry) (option_map view.comparison compared.now)) }
     ensures own { maybe_broken result.1 ≡ spec.comparison_of (around context.entry) (maybe_kind kind.entry) (option_map view.comparison compared.now) }
 {
     match compared {
-        None => (Diagnostics::nothing(), None),
+        None => {
+            let judged = Judged {
+                kind,
+                violations: Diagnostics::nothing(),
+            };
+            (judged, None)
+        }
         Some(compared) => {
             let other = expression(context, &compared.other);
             let fails = misfit(BinaryOperator::Equal, kind, other.kind);
-            (
-                other.violations,
-                broken_if(fails, Rule::Operands, compared.span),
-            )
+            let judged = Judged {
+                kind: binary_kind(BinaryOperator::Equal, kind, other.kind),
+                violations: other.violations,
+            };
+            (judged, broken_if(fails, Rule::Operands, compared.span))
         }
     }
 }
@@ -231,12 +240,14 @@ fn interlocked<'s, 'a>(
     let field = expression(context, &x.field);
     let kind = interlocked_kind(field.kind);
     let arguments = values_to(context, &x.arguments, kind);
-    let (following, unequal) = comparison(context, kind, compared);
+    let (other, unequal) = comparison(context, kind, compared);
     let out_of_form = broken_if(is_out_of_form(context, x), Rule::InterlockedCall, x.span);
     let own = earlier(unequal, earlier(arguments.unconverted, out_of_form));
-    let inner = field.violations.then(arguments.violations.then(following));
+    let inner = field
+        .violations
+        .then(arguments.violations.then(other.violations));
     Given {
-        kind,
+        kind: other.kind,
         place: x.span,
         violations: Diagnostics::breaking(own).then(inner),
     }

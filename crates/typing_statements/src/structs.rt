@@ -12,12 +12,13 @@ use c_syntax::items::Member;
 use std::alloc::Global;
 use typing_expressions::context::{Context, InProperty, Quantified, Scope, Text};
 use typing_expressions::expressions::expression;
+use typing_expressions::forms::is_approval;
 use typing_expressions::violations::Diagnostics;
 use typing_expressions::words::type_breaks;
 use typing_symbols::declarations::{Declarations, StructEntry};
 use typing_symbols::variables::Variables;
 
-/// A member of a struct.
+/// A member of a struct; an invariant that approves a field has no pieces.
 fn member<'s, 'a>(context: Context<'s, 'a>, x: &'a Member) -> Diagnostics
     ensures { findings result ≡ spec.member_found (around context.entry) (view.member x.now) }
 {
@@ -25,7 +26,13 @@ fn member<'s, 'a>(context: Context<'s, 'a>, x: &'a Member) -> Diagnostics
         Member::Field(field) => {
             Diagnostics::breaking(type_breaks(context.scope.declarations, &field.ty))
         }
-        Member::Invariant(invariant) => expression(context, &invariant.property).violations,
+        Member::Invariant(invariant) => {
+            if is_approval(&invariant.property) {
+                Diagnostics::nothing()
+            } else {
+                expression(context, &invariant.property).violations
+            }
+        }
     }
 }
 

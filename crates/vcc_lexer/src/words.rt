@@ -47,7 +47,7 @@ const KEYWORDS: [Keyword; 35] = [
 ];
 
 /// Every spec word.
-const SPEC_WORDS: [SpecWord; 27] = [
+const SPEC_WORDS: [SpecWord; 29] = [
     SpecWord::Object,
     SpecWord::Claim,
     SpecWord::Span,
@@ -70,6 +70,8 @@ const SPEC_WORDS: [SpecWord; 27] = [
     SpecWord::Fresh,
     SpecWord::ClaimsObject,
     SpecWord::Claims,
+    SpecWord::ClaimsOnly,
+    SpecWord::Approves,
     SpecWord::Closed,
     SpecWord::Owner,
     SpecWord::ClaimCount,
@@ -147,6 +149,8 @@ pub fn spec_word_text(word: SpecWord) -> &'static [u8]
         SpecWord::Fresh => b"fresh",
         SpecWord::ClaimsObject => b"claims_object",
         SpecWord::Claims => b"claims",
+        SpecWord::ClaimsOnly => b"claims_only",
+        SpecWord::Approves => b"approves",
         SpecWord::Closed => b"closed",
         SpecWord::Owner => b"owner",
         SpecWord::ClaimCount => b"claim_count",

@@ -2,28 +2,52 @@ use Rattle.std.proofs.Common.{◌+◌, List, refl, sym, ap, ◌∙◌, take, ari
 use Rattle.c_syntax.specs.declared.expressions.Expr.{Expr}
 use Rattle.c_syntax.specs.Expressions as e
 use Rattle.c_syntax.specs.declared.tree.BinaryOperator.TheVariants as op
+use Rattle.c_syntax.specs.Grammar.{exps_of}
 use Rattle.c_syntax.specs.Views.{exp, exps}
 use Rattle.elab_code.specs.Views.{around}
 use Rattle.typed_program.specs.Annotations.{owner_first}
-use Rattle.elab_annotations.specs.Typing.{arguments_typed, mine_typed, conjuncts_typed, exists_body_typed, others_typed}
+use Rattle.elab_annotations.specs.Typing.{arguments_typed, mine_typed, claims_only_typed, exact_set_typed, conjuncts_typed, exists_body_typed, others_typed}
 use Rattle.elab_annotations.specs.Views.{Typed, Several, typed, boxed as seen, row_of}
-use Rattle.elab_annotations.proofs.Laws.{no_arguments, mine_law, arguments_law, claims_law, conjuncts_law, others_law, exists_law}
+use Rattle.elab_annotations.proofs.Laws.{no_arguments, mine_law, exact_set_law, several_law, arguments_law, claims_law, conjuncts_law, others_law, exists_law}
 use Rattle.elab_annotations.proofs.Steps.{told, operand, of_form, claimed, in_front, with_one, some_hold}
-use Rattle.typing_expressions.proofs.Rows.{mine, take_at, take_all}
-use Rattle.elab_annotations.proofs.Vectors.{mine_parts, item_parts}
+use Rattle.typing_expressions.proofs.Rows.{several, take_at, take_all}
+use Rattle.elab_annotations.proofs.Vectors.{several_parts, item_parts}
 use Rattle.elab_annotations.proofs.annotations.+annotations.Goals as goal
 
 pub boxed-row-requires : goal.boxed-row-requires
-boxed-row-requires t c = let m = mine_parts c.args.x.now c.in-Mine.field-0 c.in-Mine.arguments c.deref-in-Mine.result.now c.in-Mine.is c.deref-in-Mine.ensures.value in (omega (arith, c.decreases, m), tt)
+boxed-row-requires t c = let s = c.in-Several in let m = several_parts c.args.x.now s.field-0 s.word s.arguments c.deref-in-Mine.result.now s.is c.deref-in-Mine.ensures.value in (omega (arith, c.decreases, m), tt)
+
+pub boxed-exact_set-requires : goal.boxed-exact_set-requires
+boxed-exact_set-requires t c = let s = c.in-Several in let m = several_parts c.args.x.now s.field-0 s.word s.arguments c.deref-in-ClaimsOnly.result.now s.is c.deref-in-ClaimsOnly.ensures.value in (omega (arith, c.decreases, m), tt)
 
 pub boxed-returns-in_ok-objects-in-Mine : goal.boxed-returns-in_ok-objects-in-Mine
 boxed-returns-in_ok-objects-in-Mine t c =
     let here = around c.args.around in
     let n = c.args.first in
-    let s = c.in-Mine in
+    let s = c.in-Several in
     let all = c.deref-in-Mine.result.now in
-    told seen c.all_owned.result c.all_owned.ensures
-    (ap mine_typed c.in_ok-objects-in-Mine.ensures ∙ (mine_law here n s.field-0 (exps all) ∙ ap (typed here n) (sym (mine c.args.x.now s.field-0 s.arguments all s.is c.deref-in-Mine.ensures.value))))
+    let whole = several c.args.x.now s.field-0 s.word s.arguments all s.is c.deref-in-Mine.ensures.value ∙ ap (λ w. e.Several s.field-0 w (exps_of (exps all))) c.in-Mine.is in
+    told seen c.all_owned.result c.all_owned.ensures (ap mine_typed c.in_ok-objects-in-Mine.ensures ∙ (mine_law here n s.field-0 (exps all) ∙ ap (typed here n) (sym whole)))
+
+pub boxed-returns-in-ClaimsOnly : goal.boxed-returns-in-ClaimsOnly
+boxed-returns-in-ClaimsOnly t c =
+    let here = around c.args.around in
+    let n = c.args.first in
+    let s = c.in-Several in
+    let all = c.deref-in-ClaimsOnly.result.now in
+    let whole = several c.args.x.now s.field-0 s.word s.arguments all s.is c.deref-in-ClaimsOnly.ensures.value ∙ ap (λ w. e.Several s.field-0 w (exps_of (exps all))) c.in-ClaimsOnly.is in
+    told seen c.exact_set.result c.exact_set.ensures (several_law here n s.field-0 (exps all) ∙ ap (typed here n) (sym whole))
+
+pub exact_set-returns : goal.exact_set-returns
+exact_set-returns t c =
+    let here = around c.args.around in
+    let n = c.args.first in
+    let x = exp c.in-Some.claim.now in
+    let xs = exps c.in-Some.objects.now in
+    let front = c.in_ok-front.ensures ∙ ap (λ m. typed here m x) c.in_ok-start.ensures in
+    let back = c.in_ok-back.ensures ∙ ap (λ (k : Typed). arguments_typed here k.next xs) front in
+    told seen c.claims_only.result c.claims_only.ensures
+    ((λ i. claims_only_typed n (front i) (back i)) ∙ (exact_set_law here n x xs ∙ ap (λ (ys : List Expr). exact_set_typed here n (exps ys)) (sym c.in-Some.ensures.cases.0)))
 
 pub row-boxed-requires : goal.row-boxed-requires
 row-boxed-requires t c = let m = item_parts c.args.all.now c.loop-x.x-index c.x-item.result c.loop-x-test.true c.x-item.is in (omega (arith, c.decreases, m), tt)

@@ -16,6 +16,9 @@ decreases-only l = 1 + 3 * parts (exp l.x.now)
 abbrev pub decreases-row : goal.decreases-row
 decreases-row l = 1 + 3 * all_parts (exps_of (exps l.all.now))
 
+abbrev pub decreases-exact_set : goal.decreases-exact_set
+decreases-exact_set l = 2 + 3 * all_parts (exps_of (exps l.all.now))
+
 abbrev pub decreases-conjuncts : goal.decreases-conjuncts
 decreases-conjuncts l = 2 + 3 * parts (exp l.x.now)
 

@@ -26,7 +26,7 @@ use Rattle.reader_expressions.proofs.Many as many
 use Rattle.reader_expressions.proofs.Commas.{whole_list, begins_comma, comma_takes}
 use Rattle.reader_expressions.proofs.Outcomes.{first_err, then_gives, same_gives, high_gives, is_prefix_rule, level_plus, link_high, link_binary, link_choice, link_in, link_in_high, at_in, not_in}
 use Rattle.reader_expressions.proofs.Boxes.{held, right_of, joint_of, at_is, placed, none_read}
-use Rattle.reader_expressions.proofs.Primaries.{primary_named, primary_code, primary_unnamed, unnamed_number, unnamed_null, unnamed_group, unnamed_high, unnamed_none, form_fits, form_high, constant_rule, prefix_fits, prefix_high, postfix_plus, set_read, reads_rule, reads_none, set_named, set_form, set_other}
+use Rattle.reader_expressions.proofs.Primaries.{primary_named, primary_code, primary_unnamed, unnamed_number, unnamed_null, unnamed_group, unnamed_high, unnamed_none, form_fits, form_high, constant_rule, approval_rule, prefix_fits, prefix_high, postfix_plus, set_read, reads_rule, reads_none, set_named, set_form, set_other}
 use Rattle.reader_expressions.proofs.SetBodies.{start_primary, start_quantifier, quantifier_high, quantifier_fits, body_read, conjunction_read, memberships_read, membership_read, element_read, element_primary, element_high, element_fits, field_read, joint_high, joint_low, rooms}
 use Rattle.reader_expressions.proofs.expressions.+expressions.Goals as goal
 
@@ -180,11 +180,14 @@ worded-returns-in-Constant-clause-gives t c = same_gives exp c.constant.result _
 pub worded-returns-in-Function-clause-gives : goal.worded-returns-in-Function-clause-gives
 worded-returns-in-Function-clause-gives t c = same_gives exp c.apply.result _ _ (ap (λ x. rule_at c.args.room (forms.rule_of x) (lexemes c.args.tokens.now)) c.in-Function.is) c.apply.ensures.gives
 
-pub worded-returns-in-Mine-clause-gives : goal.worded-returns-in-Mine-clause-gives
-worded-returns-in-Mine-clause-gives t c = same_gives exp c.mine.result _ _ (ap (λ x. rule_at c.args.room (forms.rule_of x) (lexemes c.args.tokens.now)) c.in-Mine.is) c.mine.ensures.gives
+pub worded-returns-in-Several-clause-gives : goal.worded-returns-in-Several-clause-gives
+worded-returns-in-Several-clause-gives t c = same_gives exp c.several.result _ _ (ap (λ x. rule_at c.args.room (forms.rule_of x) (lexemes c.args.tokens.now)) c.in-Several.is) c.several.ensures.gives
 
 pub worded-returns-in-Pair-clause-gives : goal.worded-returns-in-Pair-clause-gives
 worded-returns-in-Pair-clause-gives t c = same_gives exp c.paired.result _ _ (ap (λ x. rule_at c.args.room (forms.rule_of x) (lexemes c.args.tokens.now)) c.in-Pair.is) c.paired.ensures.gives
+
+pub worded-returns-in-Approval-clause-gives : goal.worded-returns-in-Approval-clause-gives
+worded-returns-in-Approval-clause-gives t c = same_gives exp c.approval.result _ _ (ap (λ x. rule_at c.args.room (forms.rule_of x) (lexemes c.args.tokens.now)) c.in-Approval.is ∙ approval_rule c.args.room (lexemes c.args.tokens.now)) c.approval.ensures.gives
 
 pub worded-returns-in-Quantifier-clause-gives : goal.worded-returns-in-Quantifier-clause-gives
 worded-returns-in-Quantifier-clause-gives t c = same_gives exp c.quantified.result _ _ (ap (λ x. rule_at c.args.room (forms.rule_of x) (lexemes c.args.tokens.now)) c.in-Quantifier.is) c.quantified.ensures.gives

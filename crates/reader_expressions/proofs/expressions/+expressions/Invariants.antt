@@ -55,8 +55,8 @@ decreases-apply l = 64 * l.room + 6
 abbrev pub decreases-paired : goal.decreases-paired
 decreases-paired l = 64 * l.room + 6
 
-abbrev pub decreases-mine : goal.decreases-mine
-decreases-mine l = 64 * l.room + 6
+abbrev pub decreases-several : goal.decreases-several
+decreases-several l = 64 * l.room + 6
 
 abbrev pub decreases-quantified : goal.decreases-quantified
 decreases-quantified l = 64 * l.room + 6

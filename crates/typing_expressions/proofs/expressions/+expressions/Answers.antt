@@ -1,13 +1,14 @@
-use Rattle.std.proofs.Common.{◌≡◌, refl, sym, ap, ◌∙◌, None, List, take, arith}
+use Rattle.std.proofs.Common.{◌≡◌, refl, sym, ap, ◌∙◌, Some, None, List, take, arith}
 use Rattle.c_syntax.specs.declared.expressions.Expr.{Expr}
 use Rattle.c_syntax.specs.Views.{exp, exps, id, ty}
 use Rattle.typing_spec.specs.Contexts.{Context, deeper}
+use Rattle.typing_spec.specs.Types.{Integer}
 use Rattle.typing_spec.specs.Pieces.{operand}
 use Rattle.typing_expressions.specs.Violations.{Judged, judge}
 use Rattle.typing_expressions.specs.Judging as j
-use Rattle.typing_expressions.specs.Views.{context, judged}
-use Rattle.typing_expressions.proofs.Judgements.{number_judged, null_judged, name_judged, word_judged, group_judged, field_judged, status_judged, owns_judged, unary_judged, binary_judged, conditional_judged, apply_judged, mine_judged, claims_object_judged, claims_judged, quantified_judged}
-use Rattle.typing_expressions.proofs.Rows.{mine, row_more, take_at, take_all}
+use Rattle.typing_expressions.specs.Views.{context, kind, judged}
+use Rattle.typing_expressions.proofs.Judgements.{number_judged, null_judged, name_judged, word_judged, group_judged, field_judged, status_judged, owns_judged, unary_judged, binary_judged, conditional_judged, apply_judged, several_judged, claims_object_judged, claims_judged, approves_judged, quantified_judged}
+use Rattle.typing_expressions.proofs.Rows.{several, row_more, row_empty, take_at, take_all}
 use Rattle.typing_expressions.proofs.expressions.+expressions.Goals as goal
 
 -- what a part is, in the context that it has
@@ -77,12 +78,12 @@ expression-returns-in-Apply t c =
     c.apply.ensures ∙ (ap (λ (w : Expr). j.apply (context c.args.context) s.span s.function (exp w) (judged c.expression-inner-in-Apply.result)) c.deref-in-Apply-2.ensures
     ∙ (ap (j.apply (context c.args.context) s.span s.function (exp s.argument.value)) (part _ _ _ _ _ c.expression-inner-in-Apply.ensures c.deref-in-Apply.ensures c.argument.ensures) ∙ of_form (context c.args.context) c.args.x.now _ _ c.in-Apply.is (apply_judged (context c.args.context) s.span s.function (exp s.argument.value))))
 
-pub expression-returns-in-Mine : goal.expression-returns-in-Mine
-expression-returns-in-Mine t c =
-    let s = c.in-Mine in
-    let all = c.deref-in-Mine.result.now in
-    c.mine.ensures ∙ (ap (j.mine (context c.args.context) s.span) (c.row-inner.ensures ∙ ap (λ (w : Context). j.row w (exps all)) c.deeper-inside.ensures)
-    ∙ sym (ap (judge (context c.args.context)) (mine c.args.x.now s.span s.arguments all s.is c.deref-in-Mine.ensures.value) ∙ mine_judged (context c.args.context) s.span (exps all)))
+pub expression-returns-in-Several : goal.expression-returns-in-Several
+expression-returns-in-Several t c =
+    let s = c.in-Several in
+    let all = c.deref-in-Several.result.now in
+    c.several.ensures ∙ (ap (j.several (context c.args.context) s.span s.word) (c.row-inner.ensures ∙ (λ i. j.row (c.first_wanted.ensures i) (c.deeper-inside.ensures i) (exps all)))
+    ∙ sym (ap (judge (context c.args.context)) (several c.args.x.now s.span s.word s.arguments all s.is c.deref-in-Several.ensures.value) ∙ several_judged (context c.args.context) s.span s.word (exps all)))
 
 pub expression-returns-in-ClaimsObject : goal.expression-returns-in-ClaimsObject
 expression-returns-in-ClaimsObject t c =
@@ -103,6 +104,11 @@ expression-returns-in-Claims t c =
     ∙ (ap (λ (k : Judged). j.claims (exp s.claim.value) k (judged c.expression-second-in-Claims.result)) first
     ∙ (ap (j.claims (exp s.claim.value) (judge (deeper (context c.args.context)) (exp s.claim.value))) second ∙ of_form (context c.args.context) c.args.x.now _ _ c.in-Claims.is (claims_judged (context c.args.context) s.field-0 (exp s.claim.value) (exp s.property.value)))))
 
+pub expression-returns-in-Approves : goal.expression-returns-in-Approves
+expression-returns-in-Approves t c =
+    let s = c.in-Approves in
+    c.leaf-in-Approves.ensures ∙ (ap (j.leaf (Some Integer)) c.broken_if.ensures ∙ of_form (context c.args.context) c.args.x.now _ _ s.is (approves_judged (context c.args.context) s.span (id s.field-1)))
+
 pub expression-returns-in-Quantified : goal.expression-returns-in-Quantified
 expression-returns-in-Quantified t c =
     let s = c.in-Quantified in
@@ -110,15 +116,19 @@ expression-returns-in-Quantified t c =
     c.quantified.ensures ∙ (ap (λ (w : Expr). j.quantified (context c.args.context) s.span s.quantifier (ty s.ty) (id s.variable) (exp w) (judged c.expression-inner-in-Quantified.result)) c.deref-in-Quantified-2.ensures
     ∙ (ap (j.quantified (context c.args.context) s.span s.quantifier (ty s.ty) (id s.variable) (exp s.body.value)) body ∙ of_form (context c.args.context) c.args.x.now _ _ c.in-Quantified.is (quantified_judged (context c.args.context) s.span s.quantifier (ty s.ty) (id s.variable) (exp s.body.value))))
 
+pub row-loop-x-init : goal.row-loop-x-init
+row-loop-x-init t c = c.nothing-so_far.ensures ∙ row_empty (kind c.args.wanted) (context c.args.context)
+
 pub row-returns : goal.row-returns
-row-returns t c = c.loop-x.invariant ∙ ap (λ (xs : List Expr). j.row (context c.args.context) (exps xs)) (take_all c.args.all.now c.loop-x.x-index (omega arith))
+row-returns t c = c.loop-x.invariant ∙ ap (λ (xs : List Expr). j.row (kind c.args.wanted) (context c.args.context) (exps xs)) (take_all c.args.all.now c.loop-x.x-index (omega arith))
 
 pub row-loop-x-preserved : goal.row-loop-x-preserved
 row-loop-x-preserved t c =
     let k = context c.args.context in
+    let o = kind c.args.wanted in
     let done = exps (take c.loop-x.x-index c.args.all.now) in
     let y = exp c.x-item.result in
     c.with-so_far.ensures ∙ (ap (λ (w : j.Row). j.row_with w (judged c.expression.result) c.first_place.result) c.loop-x.invariant
-    ∙ (ap (λ (w : Judged). j.row_with (j.row k done) w c.first_place.result) c.expression.ensures
-    ∙ (ap (j.row_with (j.row k done) (judge k y)) c.first_place.ensures
-    ∙ (sym (row_more k done y) ∙ ap (j.row k) (sym (take_at exp c.args.all.now c.loop-x.x-index c.x-item.result c.loop-x-test.true c.x-item.is))))))
+    ∙ (ap (λ (w : Judged). j.row_with (j.row o k done) w c.first_place.result) c.expression.ensures
+    ∙ (ap (j.row_with (j.row o k done) (judge k y)) c.first_place.ensures
+    ∙ (sym (row_more o k done y) ∙ ap (j.row o k) (sym (take_at exp c.args.all.now c.loop-x.x-index c.x-item.result c.loop-x-test.true c.x-item.is))))))
