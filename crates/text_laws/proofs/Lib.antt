@@ -1,0 +1,14 @@
+pub mod Order
+pub mod SourceOrder
+pub mod TextOrder
+pub mod Fitting
+pub mod Naming
+pub mod Texts
+pub mod QuantifierFree
+pub mod Opened
+pub mod OpenedAgain
+pub mod OpenedShapes
+pub mod ShapeFits
+pub mod ShapeMeanings
+pub mod SourceMeanings
+pub mod SourceShapes
