@@ -4,10 +4,10 @@
 use crate::rows::is;
 use first_conditions::condition::{Condition, checks, condition_of};
 use first_form::tree::Program;
+use first_terms::term::Term;
 use std::alloc::{AllocError, Global};
 use std::fmt::Write;
 use std::process::Abort;
-use terms::term::Term;
 use vcc_cli::program::read_program;
 use vcc_cli::refusal::Refusal;
 

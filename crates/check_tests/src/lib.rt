@@ -2,6 +2,8 @@
 #![tactic(auto)]
 
 #[cfg(test)]
+mod approvals;
+#[cfg(test)]
 mod commands;
 #[cfg(test)]
 mod conditions;

@@ -2,10 +2,10 @@
 use Rattle.std.proofs.lemmas.Grind.{take_at_read}
 use Rattle.std.proofs.lemmas.List.Elements.{All-push}
 use Rattle.std.proofs.Common.{All, arith, ◌+◌, ◌<◌, ◌≤◌, ◌≡◌, ℕ, pos, List, [], ◌∷◌, ◌++◌, map, take, length, get_or, refl, ap, sym, ◌∙◌, subst}
-use Rattle.terms.specs.declared.term.Term.{Term}
-use Rattle.terms.specs.declared.term.Kind.TheVariants as k
-use Rattle.terms.specs.Formula.{Formula, Numbered, Interns, term}
-use Rattle.terms.proofs.Numbering.{numbered_binary}
+use Rattle.first_terms.specs.declared.term.Term.{Term}
+use Rattle.first_terms.specs.declared.term.Kind.TheVariants as k
+use Rattle.first_terms.specs.Formula.{Formula, Numbered, Interns, term}
+use Rattle.first_terms.proofs.Numbering.{numbered_binary}
 use Rattle.first_form.specs.Tree as t
 use Rattle.first_form.specs.declared.tree.Stmt as s
 use Rattle.first_form.specs.declared.tree.Test as e

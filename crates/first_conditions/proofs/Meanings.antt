@@ -2,12 +2,12 @@
 use Rattle.std.proofs.Common.{◌≡◌, ℕ, ℤ, pos, negsuc, List, [], ◌∷◌, ◌++◌, map, get_or, Bool, true, false, not, ◌&&◌, ◌||◌, ◌≤ℤ◌, refl, ap, sym, ◌∙◌, subst, eq-eqb}
 use Rattle.std.proofs.lemmas.Bool.{eqb-true}
 use Rattle.object_types.specs.Heap.{empty_heap}
-use Rattle.terms.specs.declared.term.Term.{Term}
-use Rattle.terms.specs.declared.term.Kind.{Kind}
-use Rattle.terms.specs.declared.term.Kind.TheVariants as k
-use Rattle.terms.specs.Formula.{Formula, leaf, unary, binary, term, Stands}
-use Rattle.term_eval.specs.Meaning.{Env, Value, IntValue, truth, number as int_of, Means, IsValuation}
-use Rattle.term_eval.proofs.Valuations.{decide}
+use Rattle.first_terms.specs.declared.term.Term.{Term}
+use Rattle.first_terms.specs.declared.term.Kind.{Kind}
+use Rattle.first_terms.specs.declared.term.Kind.TheVariants as k
+use Rattle.first_terms.specs.Formula.{Formula, leaf, unary, binary, term, Stands}
+use Rattle.first_eval.specs.Meaning.{Env, Value, IntValue, truth, number as int_of, Means, IsValuation}
+use Rattle.first_eval.proofs.Valuations.{decide}
 use Rattle.first_form.specs.declared.tree.Operand.{Operand}
 use Rattle.first_form.specs.declared.tree.Operand.TheVariants as o
 use Rattle.first_form.specs.declared.tree.Comparison.{Comparison}

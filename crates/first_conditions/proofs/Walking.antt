@@ -2,7 +2,7 @@
 use Rattle.std.proofs.Common.{◌≡◌, ℕ, suc, ◌+◌, ◌-◌, ◌<◌, List, [], ◌∷◌, ◌++◌, map, take, drop, length, get_or, refl, ap, sym, ◌∙◌, append_assoc, arith, add-one, drop-cons}
 use Rattle.first_form.specs.declared.tree.Stmt as s
 use Rattle.first_form.specs.Tree as t
-use Rattle.terms.specs.Formula.{Formula}
+use Rattle.first_terms.specs.Formula.{Formula}
 use Rattle.first_conditions.specs.Translation.{test, negation, fact_behind, ranges, at_least_least, at_most_greatest}
 use Rattle.first_conditions.specs.Conditions.{Check, checks, checks_of}
 

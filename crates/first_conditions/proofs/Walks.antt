@@ -1,6 +1,6 @@
 -- Where the checks of statements are valid and the facts so far hold, the statements run without a fault.
 use Rattle.std.proofs.Common.{◌≡◌, ℕ, suc, ℤ, List, [], ◌∷◌, ◌++◌, map, Some, slice_get, Bool, true, false, not, refl, sym, ◌∙◌, subst}
-use Rattle.terms.specs.Formula.{Formula}
+use Rattle.first_terms.specs.Formula.{Formula}
 use Rattle.first_form.specs.Tree as t
 use Rattle.first_machine.specs.Value.{holds}
 use Rattle.first_conditions.specs.Translation.{test, negation, all_of, fact_behind, facts_behind}

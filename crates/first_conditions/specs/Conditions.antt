@@ -1,7 +1,7 @@
 -- The conditions of a program, one for each check, in the order of the text. From VCC: a function's text is walked once, with a list of facts.
 use Rattle.std.specs.Prelude.{ℕ, List, [], ◌∷◌, ◌++◌, length, map}
 use Rattle.first_form.specs.Tree as t
-use Rattle.terms.specs.Formula.{Formula}
+use Rattle.first_terms.specs.Formula.{Formula}
 use Rattle.first_conditions.specs.Translation.{test, negation, implication, all_of, good_entry, ranges, fact_behind}
 
 -- a check: the line of its item, the facts on the way to it but for the good heap at entry, and the formula that is checked

@@ -1,9 +1,9 @@
 -- The formulas that the code's facts stand for.
 use Rattle.std.specs.Prelude.{◌≡◌, ℕ, pos, List, [], ◌∷◌, map}
 use Rattle.first_form.specs.Tree.{bool_exp, stm}
-use Rattle.terms.specs.declared.term.Term.{Term}
-use Rattle.terms.specs.declared.term.Kind.TheVariants.{And}
-use Rattle.terms.specs.Formula.{Formula, Numbered, Interns, term}
+use Rattle.first_terms.specs.declared.term.Term.{Term}
+use Rattle.first_terms.specs.declared.term.Kind.TheVariants.{And}
+use Rattle.first_terms.specs.Formula.{Formula, Numbered, Interns, term}
 use Rattle.first_conditions.specs.declared.walk.Check as k
 use Rattle.first_conditions.specs.Conditions.{Check}
 use Rattle.first_conditions.specs.declared.walk.Fact.{Fact}

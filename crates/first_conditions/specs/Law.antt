@@ -1,10 +1,10 @@
 -- What the conditions mean.
 use Rattle.std.specs.Prelude.{◌≡◌, ℕ, List, Some, slice_get}
 use Rattle.first_form.specs.Tree.{Prog}
-use Rattle.terms.specs.declared.term.Term.{Term}
-use Rattle.term_bank.specs.Bank.{IsBank}
-use Rattle.terms.specs.Formula.{Formula, Stands}
-use Rattle.term_eval.specs.Meaning.{IsAlwaysTrue}
+use Rattle.first_terms.specs.declared.term.Term.{Term}
+use Rattle.first_bank.specs.Bank.{IsBank}
+use Rattle.first_terms.specs.Formula.{Formula, Stands}
+use Rattle.first_eval.specs.Meaning.{IsAlwaysTrue}
 use Rattle.first_machine.specs.Safe.{Safe}
 use Rattle.first_conditions.specs.Conditions.{conditions}
 

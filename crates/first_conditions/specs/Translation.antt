@@ -5,8 +5,8 @@ use Rattle.first_form.specs.declared.tree.Operand.TheVariants as o
 use Rattle.first_form.specs.declared.tree.Comparison.{Comparison}
 use Rattle.first_form.specs.declared.tree.Comparison.TheVariants as c
 use Rattle.first_form.specs.Tree as t
-use Rattle.terms.specs.declared.term.Kind.TheVariants as k
-use Rattle.terms.specs.Formula.{Formula, leaf, unary, binary}
+use Rattle.first_terms.specs.declared.term.Kind.TheVariants as k
+use Rattle.first_terms.specs.Formula.{Formula, leaf, unary, binary}
 use Rattle.first_machine.specs.Value.{least_int, greatest_int}
 
 abbrev pub number : ℤ → Formula

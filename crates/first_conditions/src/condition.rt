@@ -1,7 +1,7 @@
 //! The conditions, one for each check.
 
 ghost use Rattle.std.specs.Prelude.{◌≡◌, ◌+◌, ◌<◌, [], ◌∷◌, ◌++◌, length, map, IfOk, OnOk};
-ghost use Rattle.terms.specs.Formula.{Numbered};
+ghost use Rattle.first_terms.specs.Formula.{Numbered};
 ghost use Rattle.first_form.specs.Tree.{program as read_as, clause};
 ghost use Rattle.first_conditions.specs.Translation as spec;
 ghost use Rattle.first_conditions.specs.Conditions as conditions;
@@ -9,10 +9,10 @@ ghost use Rattle.first_conditions.specs.Facts.{formula_of, check_of};
 
 use crate::number::{good_entry, intern, joined, test};
 use crate::walk::{Check, Fact, walk};
+use first_bank::bank::Bank;
 use first_form::tree::{Clause, Program};
+use first_terms::term::Kind;
 use std::alloc::{AllocError, Global};
-use term_bank::bank::Bank;
-use terms::term::Kind;
 
 /// The terms of a condition, and the number of the one that has to be true.
 #[derive(Debug, Drop)]

@@ -2,16 +2,16 @@
 
 ghost use Rattle.std.specs.Prelude.{◌≡◌, ℕ, ℤ, pos, ◌<◌, ◌≤◌, List, [], ◌∷◌, ◌++◌, length, map, All, IfOk, OnOk, OnErr, FitsSigned};
 ghost use Rattle.std.specs.Int.{w128};
-ghost use Rattle.terms.specs.Formula.{Interns, Numbered, leaf, term};
+ghost use Rattle.first_terms.specs.Formula.{Interns, Numbered, leaf, term};
 ghost use Rattle.first_form.specs.Tree.{bool_exp, stm, stms};
 ghost use Rattle.first_conditions.specs.Translation as spec;
 ghost use Rattle.first_conditions.specs.Facts.{formula_of, Folds, Joins};
 
 use crate::walk::Fact;
+use first_bank::bank::Bank;
 use first_form::tree::{Comparison, Operand, Stmt, Test};
+use first_terms::term::{Args, Kind, Term};
 use std::alloc::{AllocError, Global};
-use term_bank::bank::Bank;
-use terms::term::{Args, Kind, Term};
 
 /// The range of `int`, which has 32 bits.
 const LEAST_INT: i128 = -2_147_483_648;
@@ -39,7 +39,7 @@ pub fn intern(
     }
 }
 
-#[tactic(auto, using(terms::proofs::Numbering::numbered_leaf, terms::proofs::Numbering::numbered_unary, terms::proofs::Numbering::numbered_binary))]
+#[tactic(auto, using(first_terms::proofs::Numbering::numbered_leaf, first_terms::proofs::Numbering::numbered_unary, first_terms::proofs::Numbering::numbered_binary))]
 fn constant(alloc: Global, terms: &mut Bank, kind: Kind, index: i128) -> Result<u32, AllocError>
     ensures numbered { IfOk result (λ id. Numbered (leaf kind index) terms.old.terms terms.new.terms id) }
     ensures within { IfOk result (λ id. id < length terms.new.terms) }
@@ -74,7 +74,7 @@ fn operand(alloc: Global, terms: &mut Bank, operand: Operand) -> Result<u32, All
 }
 
 /// An equality or its negation.
-#[tactic(auto, using(terms::proofs::Numbering::numbered_leaf, terms::proofs::Numbering::numbered_unary, terms::proofs::Numbering::numbered_binary))]
+#[tactic(auto, using(first_terms::proofs::Numbering::numbered_leaf, first_terms::proofs::Numbering::numbered_unary, first_terms::proofs::Numbering::numbered_binary))]
 fn comparison(
     alloc: Global,
     terms: &mut Bank,
@@ -99,7 +99,7 @@ fn comparison(
 }
 
 /// A test.
-#[tactic(auto, using(terms::proofs::Numbering::numbered_leaf, terms::proofs::Numbering::numbered_unary, terms::proofs::Numbering::numbered_binary))]
+#[tactic(auto, using(first_terms::proofs::Numbering::numbered_leaf, first_terms::proofs::Numbering::numbered_unary, first_terms::proofs::Numbering::numbered_binary))]
 pub fn test(alloc: Global, terms: &mut Bank, t: &Test) -> Result<u32, AllocError>
     ensures numbered { IfOk result (λ id. Numbered (spec.test (bool_exp t.now)) terms.old.terms terms.new.terms id) }
     ensures within { IfOk result (λ id. id < length terms.new.terms) }
@@ -134,7 +134,7 @@ pub fn test(alloc: Global, terms: &mut Bank, t: &Test) -> Result<u32, AllocError
     }
 }
 
-#[tactic(auto, using(terms::proofs::Numbering::numbered_unary))]
+#[tactic(auto, using(first_terms::proofs::Numbering::numbered_unary))]
 fn negated_test(alloc: Global, terms: &mut Bank, t: &Test) -> Result<u32, AllocError>
     ensures numbered { IfOk result (λ id. Numbered (spec.negation (spec.test (bool_exp t.now))) terms.old.terms terms.new.terms id) }
     ensures within { IfOk result (λ id. id < length terms.new.terms) }
@@ -204,7 +204,7 @@ fn branch(alloc: Global, terms: &mut Bank, first: u32, stmts: &[Stmt]) -> Result
 }
 
 /// The heap at entry is good.
-#[tactic(auto, using(terms::proofs::Numbering::numbered_unary))]
+#[tactic(auto, using(first_terms::proofs::Numbering::numbered_unary))]
 pub fn good_entry(alloc: Global, terms: &mut Bank) -> Result<u32, AllocError>
     ensures numbered { IfOk result (λ id. Numbered spec.good_entry terms.old.terms terms.new.terms id) }
     ensures within { IfOk result (λ id. id < length terms.new.terms) }
@@ -216,7 +216,7 @@ pub fn good_entry(alloc: Global, terms: &mut Bank) -> Result<u32, AllocError>
 }
 
 /// A fact.
-#[tactic(auto, using(terms::proofs::Numbering::numbered_binary))]
+#[tactic(auto, using(first_terms::proofs::Numbering::numbered_binary))]
 fn fact(alloc: Global, terms: &mut Bank, fact: Fact<'_>) -> Result<u32, AllocError>
     ensures numbered { IfOk result (λ id. Numbered (formula_of fact.entry) terms.old.terms terms.new.terms id) }
     ensures within { IfOk result (λ id. id < length terms.new.terms) }

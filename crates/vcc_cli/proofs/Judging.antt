@@ -1,10 +1,10 @@
 -- The judge's loop.
 use Rattle.std.proofs.Common.{◌≡◌, ℕ, zero, suc, ◌+◌, ◌<◌, ◌≤◌, List, [], ◌∷◌, map, drop, length, get_or, refl, ap, sym, subst, arith, add-one, drop-cons}
-use Rattle.cert_format.specs.declared.certificate.Step.{Step}
+use Rattle.first_cert.specs.declared.certificate.Step.{Step}
 use Rattle.first_conditions.specs.Conditions.{Check, condition}
 use Rattle.first_conditions.specs.Law.{IsValid}
 use Rattle.std.proofs.Common.{Some, slice_get}
-use Rattle.terms.specs.Formula.{Formula}
+use Rattle.first_terms.specs.Formula.{Formula}
 use Rattle.std.proofs.Common.{inl, inr}
 use Rattle.vcc_cli.specs.declared.judge.Label.{Label}
 use Rattle.vcc_cli.specs.Answer.{FirstNot}

@@ -12,8 +12,8 @@ use Rattle.c_source.specs.Sources.{IsFault}
 use Rattle.c_source.proofs.Unique.{not_both, one_text}
 use Rattle.first_form.specs.Tree.{Prog}
 use Rattle.first_program.specs.Reads.{IsFirstForm}
-use Rattle.cert_format.specs.declared.certificate.Step.{Step}
-use Rattle.cert_format.specs.Text.{IsCertText}
+use Rattle.first_cert.specs.declared.certificate.Step.{Step}
+use Rattle.first_cert.specs.Text.{IsCertText}
 use Rattle.first_conditions.specs.Conditions.{Check, checks_of_program}
 use Rattle.vcc_base.specs.Maps.{Map}
 use Rattle.vcc_base.specs.Limits.{number_of}

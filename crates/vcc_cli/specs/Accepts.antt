@@ -1,12 +1,12 @@
 -- When a source and a certificate are accepted.
 use Rattle.std.specs.Prelude.{ℕ, List, [], ◌∷◌}
-use Rattle.terms.specs.declared.term.Term.{Term}
-use Rattle.terms.specs.Formula.{Numbered}
+use Rattle.first_terms.specs.declared.term.Term.{Term}
+use Rattle.first_terms.specs.Formula.{Numbered}
 use Rattle.first_form.specs.Tree.{Prog}
 use Rattle.first_program.specs.Reads.{Reads}
-use Rattle.cert_format.specs.declared.certificate.Step.{Step}
-use Rattle.cert_format.specs.Text.{IsCertText}
-use Rattle.refutation_check.specs.Follows.{Follows}
+use Rattle.first_cert.specs.declared.certificate.Step.{Step}
+use Rattle.first_cert.specs.Text.{IsCertText}
+use Rattle.first_checker.specs.Follows.{Follows}
 use Rattle.first_conditions.specs.Law.{IsValid}
 use Rattle.first_conditions.specs.Conditions.{Check, condition, checks_of_program}
 

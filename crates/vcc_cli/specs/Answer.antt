@@ -3,8 +3,8 @@ use Rattle.std.specs.Prelude.{◌≡◌, ◌≢◌, ◌⊎◌, ℕ, ◌+◌, ◌
 use Rattle.first_form.specs.Tree.{Prog}
 use Rattle.first_program.specs.Reads.{Reads, IsFirstForm}
 use Rattle.first_machine.specs.Safe.{Safe}
-use Rattle.cert_format.specs.declared.certificate.Step.{Step}
-use Rattle.cert_format.specs.Text.{IsCertText}
+use Rattle.first_cert.specs.declared.certificate.Step.{Step}
+use Rattle.first_cert.specs.Text.{IsCertText}
 use Rattle.first_conditions.specs.Conditions.{Check, checks_of_program}
 use Rattle.vcc_base.specs.Maps.{Map}
 use Rattle.vcc_base.specs.Limits.{number_of}

@@ -1,6 +1,6 @@
 -- What a verdict over checks and as many blocks means.
 use Rattle.std.specs.Prelude.{List}
-use Rattle.cert_format.specs.declared.certificate.Step.{Step}
+use Rattle.first_cert.specs.declared.certificate.Step.{Step}
 use Rattle.first_conditions.specs.Conditions.{Check}
 use Rattle.vcc_cli.specs.declared.judge.Verdict.{Verdict}
 use Rattle.vcc_cli.specs.declared.judge.Verdict.TheVariants.{Yes, No}

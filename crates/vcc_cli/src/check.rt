@@ -12,7 +12,7 @@ ghost use Rattle.vcc_cli.specs.Faults.{IsReadFault};
 use crate::judge::{Verdict, judge_blocks};
 use crate::program::read_program;
 use crate::refusal::Refusal;
-use cert_format::decode::{CertFault, decode};
+use first_cert::decode::{CertFault, decode};
 use first_conditions::law::conditions_mean_safe;
 use first_form::tree::Program;
 use std::alloc::Global;

@@ -10,11 +10,11 @@ ghost use Rattle.vcc_cli.specs.Answer.{AreJudged, FirstNot};
 ghost use Rattle.vcc_cli.specs.Verdicts.{IsVerdict};
 
 use crate::refusal::Refusal;
-use cert_format::certificate::Refutation;
+use first_cert::certificate::Refutation;
+use first_checker::check_one;
 use first_conditions::condition::{checks, condition_of};
 use first_conditions::walk::Check;
 use first_form::tree::Program;
-use refutation_check::check_one;
 use std::alloc::{AllocError, Global};
 
 /// The label of a check of main: its number among the checks, from 1, and its line.

@@ -1,6 +1,6 @@
 use Rattle.std.proofs.Common.{ℕ, List, [], ◌∷◌, ◌++◌, length, arith, subst, sym, ap, ◌∙◌}
 use Rattle.first_form.specs.Tree.{Stm, stm, stms, bool_exp}
-use Rattle.terms.specs.Formula.{Numbered}
+use Rattle.first_terms.specs.Formula.{Numbered}
 use Rattle.first_conditions.specs.Translation.{fact_behind}
 use Rattle.first_conditions.proofs.Joining.{numbered_if, shown_if, stmts_numbered, within_push}
 use Rattle.first_conditions.proofs.number.+following.Goals as goal

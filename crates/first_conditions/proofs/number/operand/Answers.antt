@@ -1,8 +1,8 @@
 use Rattle.std.proofs.Common.{ℤ, ◌∙◌, subst}
 use Rattle.std.specs.Int.{w128}
 use Rattle.std.proofs.lemmas.Int.{to_z-of_z}
-use Rattle.terms.specs.Formula.{Numbered, leaf}
-use Rattle.terms.specs.declared.term.Kind.TheVariants.{Ci, Int}
+use Rattle.first_terms.specs.Formula.{Numbered, leaf}
+use Rattle.first_terms.specs.declared.term.Kind.TheVariants.{Ci, Int}
 use Rattle.first_conditions.proofs.number.operand.Goals as goal
 
 pub returns-in_ok-id-in-Parameter-clause-numbered :

@@ -2,7 +2,7 @@ use Rattle.std.proofs.Common.{◌≡◌, List, [], ◌∷◌, ◌++◌, map, ari
 use Rattle.std.proofs.lemmas.Grind.{common_steps}
 use Rattle.first_form.specs.declared.tree.Stmt.{Stmt}
 use Rattle.first_form.specs.Tree.{Stm, stm, stms, bool_exp}
-use Rattle.terms.specs.Formula.{Formula}
+use Rattle.first_terms.specs.Formula.{Formula}
 use Rattle.first_conditions.specs.Translation.{test, negation}
 use Rattle.first_conditions.specs.Conditions.{checks, checks_of}
 use Rattle.first_conditions.specs.Facts.{formula_of, check_of}

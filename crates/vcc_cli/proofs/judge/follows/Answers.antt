@@ -1,8 +1,8 @@
 use Rattle.std.proofs.Common.{[], List, ℕ, subst, sym}
-use Rattle.terms.specs.declared.term.Term.{Term}
-use Rattle.terms.proofs.Numbering.{numbers_stand}
-use Rattle.term_bank.proofs.Trees.{numbered_same}
-use Rattle.refutation_check.specs.Follows.{Follows}
+use Rattle.first_terms.specs.declared.term.Term.{Term}
+use Rattle.first_terms.proofs.Numbering.{numbers_stand}
+use Rattle.first_bank.proofs.Trees.{numbered_same}
+use Rattle.first_checker.specs.Follows.{Follows}
 use Rattle.first_conditions.specs.Facts.{check_of}
 use Rattle.first_conditions.specs.Conditions.{condition}
 use Rattle.vcc_cli.proofs.judge.follows.Goals as goal

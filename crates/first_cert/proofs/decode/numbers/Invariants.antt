@@ -1,0 +1,13 @@
+use Rattle.std.proofs.Common.{◌≤◌, length, codes}
+use Rattle.first_cert.specs.Reading.{number_at, numbers_at}
+use Rattle.first_cert.proofs.Loop.{Goes}
+use Rattle.first_cert.proofs.decode.numbers.Given as goal
+
+abbrev pub invariant-loop-following : goal.invariant-loop-following
+invariant-loop-following l = record {
+  goes : Goes (codes " =") number_at l.found.items l.rest (numbers_at l.bytes);
+  within : length l.rest ≤ length l.bytes;
+}
+
+abbrev pub decreases-loop-following : goal.decreases-loop-following
+decreases-loop-following l = length l.rest

@@ -1,0 +1,5 @@
+//! Certificates, and their text.
+#![tactic(auto)]
+
+pub mod certificate;
+pub mod decode;
