@@ -4,7 +4,7 @@ use Rattle.std.proofs.lemmas.Bool.{le-leb, lt-leb, ne_eqb}
 use Rattle.std.proofs.lemmas.List.{nil_from_length}
 use Rattle.std.specs.Prelude.{◌||◌}
 use Rattle.std.specs.Char.{is_ascii_digit}
-use Rattle.cert_format.specs.Reading.{◌>>=◌, at_most, digits_at, natural_at, number_at, literal_at}
+use Rattle.cert_format.specs.Numerals.{◌>>=◌, at_most, digits_at, natural_at, number_at, literal_at}
 
 -- ---- a number without a sign
 

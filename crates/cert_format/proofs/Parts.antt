@@ -1,64 +1,24 @@
--- The same of a rule's name, of a number that it takes, and of a literal.
-use Rattle.std.proofs.Common.{◌≡◌, ℕ, suc, ◌+◌, ◌-◌, ◌%◌, ◌^◌, ◌<◌, ℤ, pos, negsuc, Bool, true, false, cond, eqb, List, [], ◌∷◌, ◌++◌, Option, Some, None, arith, refl, sym, ap, subst, ◌∙◌, inl, inr, ◌⊎◌}
+-- The same of a number and of a literal, and of words that are such.
+use Rattle.std.proofs.Common.{◌≡◌, ℕ, suc, ◌+◌, ◌-◌, ◌%◌, ◌^◌, ◌<◌, ℤ, pos, negsuc, Bool, true, false, cond, eqb, List, [], ◌∷◌, ◌++◌, length, Option, Some, None, arith, refl, sym, ap, subst, ◌∙◌, inl, inr}
 use Rattle.std.proofs.lemmas.Bool.{ne_eqb, eqb-true, eqb-false, cases_Bool, cases_eq, or_cases}
+use Rattle.std.proofs.lemmas.List.{append-nil, nil_from_length}
+use Rattle.std.proofs.lemmas.Option.{cond_some}
 use Rattle.std.proofs.lemmas.Fmt.{decimal_by_steps_wide}
 use Rattle.std.specs.Prelude.{◌||◌, decimal, FitsSigned}
 use Rattle.std.specs.Int.{w128}
 use Rattle.std.specs.Fmt.{signed_decimal}
 use Rattle.std.specs.Char.{is_ascii_digit}
 use Rattle.terms.specs.declared.term.Literal.{Literal}
-use Rattle.cert_format.specs.declared.certificate.RuleName.{RuleName}
-use Rattle.cert_format.specs.declared.certificate.RuleName.TheVariants.{Root, Conn, Chain, Refl, Sym, Trans}
-use Rattle.cert_format.specs.Text.{rule_text, literal_text}
-use Rattle.cert_format.specs.Reading.{◌>>=◌, otherwise, text_at, natural_at, number_at, literal_at, named, rule_at}
+use Rattle.cert_format.specs.Text.{literal_text}
+use Rattle.cert_format.specs.Numerals.{◌>>=◌, natural_at, number_at, literal_at, whole, number_in, argument_in, literal_in}
 use Rattle.cert_format.proofs.First.{number_plain, number_minus, literal_signed}
-use Rattle.cert_format.proofs.Words.{some_is, bind_some, text_takes, natural_takes, natural_again, Stops, digit_from, digit_least}
+use Rattle.cert_format.proofs.Naturals.{some_is, bind_some, natural_takes, natural_again, Stops, digit_from, digit_least}
 
 pub guard_some : {A : Type 0} (b : Bool) (x y : A) → cond b None (Some x) ≡ Some y → (b ≡ false) × (x ≡ y)
 guard_some true x y e = absurd cc
 guard_some false x y e = (refl, cc)
 
-pub otherwise_some : {A : Type 0} (a b : Option A) (x : A) → otherwise a b ≡ Some x → (a ≡ Some x) ⊎ (b ≡ Some x)
-otherwise_some (Some y) b x e = inl e
-otherwise_some None b x e = inr e
-
--- ---- a rule's name
-
-named_takes : (rule : RuleName) (bytes : List ℕ) (x : RuleName × List ℕ) → named rule bytes ≡ Some x → bytes ≡ rule_text x.0 ++ x.1
-named_takes rule bytes x e =
-    let b = bind_some (text_at (rule_text rule) bytes) (λ rest. Some (rule, rest)) x e in
-    text_takes (rule_text rule) bytes b.0 b.1 ∙ ap (λ (y : RuleName × List ℕ). rule_text y.0 ++ y.1) (some_is (rule, b.0) x b.2)
-
-pub rule_takes : (bytes : List ℕ) (x : RuleName × List ℕ) → rule_at bytes ≡ Some x → bytes ≡ rule_text x.0 ++ x.1
-unfolding rule_at
-rule_takes bytes x e =
-    elim (otherwise_some _ _ x e) [
-      | inl h ↦ named_takes Root bytes x h
-      | inr e1 ↦ elim (otherwise_some _ _ x e1) [
-        | inl h ↦ named_takes Conn bytes x h
-        | inr e2 ↦ elim (otherwise_some _ _ x e2) [
-          | inl h ↦ named_takes Chain bytes x h
-          | inr e3 ↦ elim (otherwise_some _ _ x e3) [
-            | inl h ↦ named_takes Refl bytes x h
-            | inr e4 ↦ elim (otherwise_some _ _ x e4) [
-              | inl h ↦ named_takes Sym bytes x h
-              | inr h ↦ named_takes Trans bytes x h
-            ]
-          ]
-        ]
-      ]
-    ]
-
-pub rule_again : (rule : RuleName) (rest : List ℕ) → rule_at (rule_text rule ++ rest) ≡ Some (rule, rest)
-unfolding rule_at
-rule_again Root rest = refl
-rule_again Conn rest = refl
-rule_again Chain rest = refl
-rule_again Refl rest = refl
-rule_again Sym rest = refl
-rule_again Trans rest = refl
-
--- ---- a number that a rule takes
+-- ---- a number
 
 minus_text : (c n : ℕ) (rest following : List ℕ) → c ≡ 45 → (n ≡ 0 → ⊥) → rest ≡ decimal n ++ following → (c ∷ rest) ≡ 45 ∷ (decimal (suc (n - 1)) ++ following)
 minus_text c n rest following is above e =
@@ -134,3 +94,46 @@ signed_again false term rest small stops = literal_signed (45 ∷ (decimal term 
 
 pub literal_again : (l : Literal) (rest : List ℕ) → l.term < 2 ^ 32 → Stops rest → literal_at (literal_text l ++ rest) ≡ Some (l, rest)
 literal_again l rest small stops = signed_again l.positive l.term rest small stops
+
+-- ---- words
+
+whole_takes : {A : Type 0} (x : A × List ℕ) (y : A) → whole x ≡ Some y → (x.1 ≡ []) × (x.0 ≡ y)
+whole_takes x y e =
+    let g = cond_some (eqb (length x.1) 0) x.0 y e in
+    (nil_from_length x.1 (eqb-true _ _ g.0), g.1)
+
+pub number_in_takes : (w : List ℕ) (n : ℤ) → number_in w ≡ Some n → (w ≡ signed_decimal n) × FitsSigned w128 n
+unfolding number_in
+number_in_takes w n e =
+    let b = bind_some (number_at w) whole n e in
+    let g = whole_takes b.0 n b.2 in
+    let t = number_takes w b.0 b.1 in
+    (t.0 ∙ ap (λ (r : List ℕ). signed_decimal b.0.0 ++ r) g.0 ∙ append-nil (signed_decimal b.0.0) ∙ ap signed_decimal g.1, subst (FitsSigned w128) g.1 t.1)
+
+pub number_in_again : (n : ℤ) → FitsSigned w128 n → number_in (signed_decimal n) ≡ Some n
+unfolding number_in
+number_in_again n fits = ap (λ (w : List ℕ). number_at w >>= whole) (sym (append-nil (signed_decimal n))) ∙ rw (number_again n [] fits tt) refl
+
+pub argument_in_takes : (w : List ℕ) (a : ℕ) → argument_in w ≡ Some a → (w ≡ decimal a) × (a < 2 ^ 32)
+unfolding argument_in
+argument_in_takes w a e =
+    let b = bind_some (natural_at (2 ^ 32 - 1) w) whole a e in
+    let g = whole_takes b.0 a b.2 in
+    let t = natural_takes (2 ^ 32 - 1) w b.0 (omega arith) b.1 in
+    (t.0 ∙ ap (λ (r : List ℕ). decimal b.0.0 ++ r) g.0 ∙ append-nil (decimal b.0.0) ∙ ap decimal g.1, omega (arith, t.1, g.1))
+
+pub argument_in_again : (a : ℕ) → a < 2 ^ 32 → argument_in (decimal a) ≡ Some a
+unfolding argument_in
+argument_in_again a small = ap (λ (w : List ℕ). natural_at (2 ^ 32 - 1) w >>= whole) (sym (append-nil (decimal a))) ∙ rw (natural_again (2 ^ 32 - 1) a [] (omega arith) (omega arith) tt) refl
+
+pub literal_in_takes : (w : List ℕ) (l : Literal) → literal_in w ≡ Some l → (w ≡ literal_text l) × (l.term < 2 ^ 32)
+unfolding literal_in
+literal_in_takes w l e =
+    let b = bind_some (literal_at w) whole l e in
+    let g = whole_takes b.0 l b.2 in
+    let t = literal_takes w b.0 b.1 in
+    (t.0 ∙ ap (λ (r : List ℕ). literal_text b.0.0 ++ r) g.0 ∙ append-nil (literal_text b.0.0) ∙ ap literal_text g.1, subst (λ (x : Literal). x.term < 2 ^ 32) g.1 t.1)
+
+pub literal_in_again : (l : Literal) → l.term < 2 ^ 32 → literal_in (literal_text l) ≡ Some l
+unfolding literal_in
+literal_in_again l small = ap (λ (w : List ℕ). literal_at w >>= whole) (sym (append-nil (literal_text l))) ∙ rw (literal_again l [] small tt) refl

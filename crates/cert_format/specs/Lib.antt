@@ -1,2 +1,6 @@
+pub mod Derivations
 pub mod Text
-pub mod Reading
+pub mod Numerals
+pub mod Grammar
+pub mod Keeping
+pub mod Decoding

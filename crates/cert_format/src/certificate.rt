@@ -4,7 +4,7 @@ ghost use Rattle.std.specs.Prelude.{◌≡◌};
 
 use std::marker::Model;
 use terms::numbers::Numbers;
-use terms::term::Clause;
+use terms::term::{Clause, Term};
 
 /// A rule, by the name that it has in a certificate.
 #[derive(Clone, Copy, Debug, PartialEq, Eq)]
@@ -15,6 +15,13 @@ pub enum RuleName {
     Refl,
     Sym,
     Trans,
+    Cong,
+    Linear,
+    Cut,
+    Split,
+    Map,
+    Axiom,
+    Lemma,
 }
 
 /// A step: the rule, the numbers that it takes, and the clause that it gives.
@@ -25,37 +32,55 @@ pub struct Step {
     pub clause: Clause,
 }
 
-/// The steps that refute the negation of one condition.
+/// What steps are for.
+#[derive(Clone, Copy, Debug, PartialEq, Eq)]
+pub enum Owner {
+    /// the lemma with this number
+    OfLemma(u32),
+    /// a condition, in a certificate of this version
+    OfCondition(u32),
+}
+
+/// The terms that a lemma or the block of a condition adds, and its steps.
 #[derive(Debug, Drop)]
 pub struct Refutation {
+    terms: Vec<Term>,
     steps: Vec<Step>,
 }
 
 impl Model for Refutation {
-    ghost use Rattle.std.specs.Prelude.{List};
-    ghost use Rattle.cert_format.specs.declared.certificate.Step.{Step};
+    ghost use Rattle.cert_format.specs.Derivations.{Derivation};
 
-    ghost Value = { List Step };
+    ghost Value = { Derivation };
 
-    ghost view = { λ r. r.steps.items };
+    ghost view = { λ r. record { terms = r.terms.items; steps = r.steps.items } };
 }
 
 impl Refutation {
-    pub fn new(steps: Vec<Step>) -> Refutation
-        ensures { result ≡ steps.items }
+    pub fn new(terms: Vec<Term>, steps: Vec<Step>) -> Refutation
+        ensures terms { result.terms ≡ terms.items }
+        ensures steps { result.steps ≡ steps.items }
     {
-        Refutation { steps }
+        Refutation { terms, steps }
+    }
+
+    pub fn terms(&self) -> &[Term]
+        ensures { result.now ≡ self.now.terms }
+    {
+        self.terms.as_slice()
     }
 
     pub fn steps(&self) -> &[Step]
-        ensures { result.now ≡ self.now }
+        ensures { result.now ≡ self.now.steps }
     {
         self.steps.as_slice()
     }
 }
 
-/// One refutation for each condition, in the order of the conditions.
+/// Its version, lemmas, and one block for each condition, in the order of the conditions.
 #[derive(Debug, Drop)]
 pub struct Certificate {
+    pub version: u32,
+    pub lemmas: Vec<Refutation>,
     pub blocks: Vec<Refutation>,
 }

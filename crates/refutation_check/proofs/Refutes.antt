@@ -20,6 +20,13 @@ row_consequence r.Chain = chain_sound
 row_consequence r.Refl = refl_sound
 row_consequence r.Sym = sym_sound
 row_consequence r.Trans = trans_sound
+row_consequence r.Cong = λ terms root clauses below numbers clause h. absurd h
+row_consequence r.Linear = λ terms root clauses below numbers clause h. absurd h
+row_consequence r.Cut = λ terms root clauses below numbers clause h. absurd h
+row_consequence r.Split = λ terms root clauses below numbers clause h. absurd h
+row_consequence r.Map = λ terms root clauses below numbers clause h. absurd h
+row_consequence r.Axiom = λ terms root clauses below numbers clause h. absurd h
+row_consequence r.Lemma = λ terms root clauses below numbers clause h. absurd h
 
 -- a place of a list, seen by a function
 pub get_map : {X Y : Type 0} (f : X → Y) (xs : List X) (i : ℕ) (y : Y) → slice_get (map f xs) i ≡ Some y → (x : X) × (slice_get xs i ≡ Some x) × (f x ≡ y)

@@ -24,7 +24,7 @@ pub fn check_one(
     root: u32,
     block: &Refutation,
 ) -> Result<bool, AllocError>
-    ensures exact { IfOk result (λ yes. IsTrue yes ↔ Follows terms.now.terms root block.now) }
+    ensures exact { IfOk result (λ yes. IsTrue yes ↔ Follows terms.now.terms root block.now.steps) }
     ensures always { IfOk result (λ yes. IsTrue yes → IsAlwaysTrue terms.now.terms root) }
 {
     let steps = block.steps();
@@ -109,6 +109,13 @@ fn is_given(
         RuleName::Refl => Reflexivity.concludes(terms, clauses, below, numbers, clause, scratch),
         RuleName::Sym => Symmetry.concludes(terms, clauses, below, numbers, clause, scratch),
         RuleName::Trans => Transitivity.concludes(terms, clauses, below, numbers, clause, scratch),
+        RuleName::Cong
+        | RuleName::Linear
+        | RuleName::Cut
+        | RuleName::Split
+        | RuleName::Map
+        | RuleName::Axiom
+        | RuleName::Lemma => false,
     }
 }
 

@@ -1,8 +1,8 @@
 -- A bank with a term more, and one cut at a mark.
-use Rattle.std.proofs.Common.{◌≡◌, ℕ, zero, suc, ◌<◌, ◌≤◌, List, [], ◌∷◌, ◌++◌, length, take, All, Contains, Some, slice_get, ◌⊎◌, inl, inr, refl, ap, sym, ◌∙◌, subst, arith, length-append}
+use Rattle.std.proofs.Common.{◌≡◌, ℕ, zero, suc, ◌<◌, ◌≤◌, List, [], ◌∷◌, ◌++◌, length, take, All, Contains, Some, slice_get, ◌⊎◌, inl, inr, refl, ap, sym, ◌∙◌, arith, length-append}
 use Rattle.std.proofs.lemmas.Option.{slice_get_within, get_or_from_slice_get}
 use Rattle.terms.specs.declared.term.Term.{Term}
-use Rattle.term_bank.specs.Bank.{HeldTerms, IsBank}
+use Rattle.term_bank.specs.Bank.{IsBank}
 
 -- a place of a list with one more at its end
 pub get_pushed : {X : Type 0} (xs : List X) (y : X) (i : ℕ) (x : X) → slice_get (xs ++ y ∷ []) i ≡ Some x → (slice_get xs i ≡ Some x) ⊎ ((i ≡ length xs) × (x ≡ y))
@@ -65,13 +65,3 @@ bank_taken n ts b = record {
   downward = λ i t g. b.downward i t (get_taken n ts i t g);
   distinct = λ i j t g h. b.distinct i j t (get_taken n ts i t g) (get_taken n ts j t h);
 }
-
--- a node placed behind a bank's terms
-pub placed : (held : HeldTerms) (before reserved after : List Term) (spare : ℕ) (t node : Term) → record { terms = before; spare = spare } ≡ held → IsBank before → reserved ≡ before → after ≡ reserved ++ t ∷ [] → t ≡ node → All (λ a. a < length held.terms) node.args → (Contains held.terms node → ⊥) → length held.terms < 1_048_576 → IsBank after
-placed held before reserved after spare t node v b r e s below new room =
-    let same : held.terms ≡ before = sym (ap (λ (h : HeldTerms). h.terms) v) in
-    let list : after ≡ before ++ node ∷ [] = e ∙ ap (λ ts. ts ++ t ∷ []) r ∙ ap (λ x. before ++ x ∷ []) s in
-    subst (λ (ts : List Term). IsBank ts) (sym list) (bank_pushed before node b
-    (subst (λ (ts : List Term). length ts < 1_048_576) same room)
-    (subst (λ (ts : List Term). All (λ a. a < length ts) node.args) same below)
-    (subst (λ (ts : List Term). Contains ts node → ⊥) same new))

@@ -1,2 +1,4 @@
 pub mod Banks
+pub mod Chains
+pub mod Indexed
 pub mod Trees

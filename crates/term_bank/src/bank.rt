@@ -1,6 +1,7 @@
 ghost use Rattle.std.specs.Prelude.{◌≡◌, ℕ, ◌+◌, ◌<◌, ◌≤◌, ◌++◌, ◌∷◌, ◌↔◌, [], length, take, IfOk, IfErr, OnOk, OnErr, IsOk, All, Contains, slice_get, slice_index_or, MatchOption, Some, Ok, Err};
 ghost use Rattle.std.specs.Prelude.{if◌then◌else◌, ◌⊎◌};
 
+use crate::index::Index;
 use std::alloc::{AllocError, Global};
 use std::marker::Model;
 use term_pool::{Mark, Pool};
@@ -9,20 +10,23 @@ use terms::term::Term;
 /// The greatest number of terms that a bank holds.
 pub const TERMS: usize = 1_048_576;
 
-/// Terms, each above its arguments, in which no term stands twice.
+/// Terms, each above its arguments, in which no term stands twice; an index says where each one stands.
 #[derive(Debug, Drop)]
 pub struct Bank {
     pool: Pool<Term>,
+    index: Index,
 }
 
 impl Model for Bank {
-    ghost use Rattle.term_bank.specs.Bank.{HeldTerms, IsBank};
+    ghost use Rattle.std.specs.Prelude.{◌-◌, length};
+    ghost use Rattle.term_bank.specs.Bank.{HeldTerms};
+    ghost use Rattle.term_bank.specs.Index.{IsIndexed};
 
     ghost Value = { HeldTerms };
 
-    ghost view = { λ b. record { terms = b.pool.items; spare = b.pool.spare } };
+    ghost view = { λ b. record { terms = b.pool.items; spare = length b.index.older.items - length b.pool.items } };
 
-    ghost invariant = { λ b. IsBank b.pool.items };
+    ghost invariant = { λ b. IsIndexed b.pool b.index.newest.items b.index.older.items };
 }
 
 /// Why a bank gives a node no number.
@@ -44,6 +48,7 @@ impl Bank {
     {
         Bank {
             pool: Pool::new(alloc),
+            index: Index::new(alloc),
         }
     }
 
@@ -68,7 +73,15 @@ impl Bank {
         ensures err { OnErr result (self.new ≡ self.old) }
         ensures room { terms ≤ self.old.spare → IsOk result × (self.new ≡ self.old) }
     {
-        self.pool.reserve(terms)
+        let held = self.pool.len();
+        if terms <= self.index.places() - held {
+            return Ok(());
+        }
+        let Some(places) = held.checked_add(terms) else {
+            return Err(AllocError);
+        };
+        self.pool.reserve(terms)?;
+        self.index.reserve(&self.pool, places)
     }
 
     pub fn node(&self, id: u32) -> &Term
@@ -92,7 +105,7 @@ impl Bank {
         ensures spare { OnOk result ((¬ Contains self.old.terms node.now) → 0 < self.old.spare → self.new.spare + 1 ≡ self.old.spare) }
         ensures err { OnErr result (self.new ≡ self.old) }
     {
-        if let Some(id) = self.find(node) {
+        if let Some(id) = self.index.find(&self.pool, node) {
             return Ok(id);
         }
         if self.pool.len() >= TERMS {
@@ -102,19 +115,6 @@ impl Bank {
             Ok(id) => Ok(id),
             Err(AllocError) => Err(BankFault::OutOfMemory),
         }
-    }
-
-    /// The number of the equal term, where one is held.
-    #[tactic(auto, using(std::proofs::lemmas::Option::get_or_from_slice_get))]
-    fn find(&self, node: &Term) -> Option<u32>
-        ensures found { MatchOption result (¬ Contains self.now.terms node.now) (λ id. slice_get self.now.terms id ≡ Some node.now) }
-    {
-        for i in 0..self.pool.len() {
-            if self.pool.get(i).is(node) {
-                return Some(i as u32);
-            }
-        }
-        None
     }
 
     /// Places a new term behind the others.
@@ -129,8 +129,9 @@ impl Bank {
         ensures err { OnErr result (self.new ≡ self.old) }
     {
         let term = node.copy()?;
-        self.pool.reserve(1)?;
+        self.reserve(1)?;
         let id = self.pool.push(term);
+        self.index.link(&self.pool, id);
         Ok(id as u32)
     }
 
@@ -148,6 +149,7 @@ impl Bank {
         ensures terms { self.new.terms ≡ take mark.length self.old.terms }
         ensures spare { self.new.spare + mark.length ≡ self.old.spare + length self.old.terms }
     {
+        self.index.unlink(&self.pool, mark.len());
         self.pool.release(mark);
     }
 }

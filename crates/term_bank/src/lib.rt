@@ -2,4 +2,5 @@
 #![tactic(auto)]
 
 pub mod bank;
+mod index;
 pub mod law;

@@ -103,3 +103,28 @@ fn terms_below_a_mark_stay(rt: HostRuntime) -> Result<(), AllocError> {
     assert!(rt; holds(&bank, 2, &order));
     Ok(())
 }
+
+/// As many terms as a bank may hold.
+const MOST: i128 = 1_048_576;
+
+/// The first numbers, each as a term, have these numbers in the bank.
+fn number_each(bank: &mut Bank, count: i128, alloc: Global) -> Result<bool, AllocError> {
+    for n in 0..count {
+        if number_of(bank, Kind::Int, n, &[], alloc)? != u32::try_from(n).ok() {
+            return Ok(false);
+        }
+    }
+    Ok(true)
+}
+
+#[test]
+fn a_bank_is_full_at_its_limit(rt: HostRuntime) -> Result<(), AllocError> {
+    let alloc = rt.alloc();
+    let mut bank = Bank::new(alloc);
+    let made = number_each(&mut bank, MOST, alloc)?;
+    let again = number_each(&mut bank, MOST, alloc)?;
+    let next = term(alloc, Kind::Int, MOST, &[])?;
+    assert!(rt; made && again && bank.len() == MOST as usize);
+    assert!(rt; bank.intern(&next) == Err(BankFault::BankFull));
+    Ok(())
+}

@@ -6,9 +6,9 @@ use Row::{Assert, If};
 use c_syntax::token::Span;
 use first_conditions::condition::{Condition, checks, condition_of};
 use first_form::tree::{Clause, Comparison, Operand, Program, Stmt, Test};
+use first_terms::term::{Kind, Term};
 use std::alloc::{AllocError, Global};
 use std::process::Abort;
-use terms::term::{Kind, Term};
 
 const X: Operand = Operand::Parameter(0);
 

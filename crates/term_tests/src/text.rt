@@ -1,8 +1,10 @@
 //! Texts of what is computed, and their check.
 
+use cert_format::certificate::RuleName;
 use std::alloc::{AllocError, Global};
 use std::fmt::Write;
 use std::process::Abort;
+use terms::term::Kind;
 
 /// A text that grows by pieces until memory is wanting, which its end tells: so no piece needs an exit of its own.
 #[derive(Drop)]
@@ -27,6 +29,18 @@ impl Text {
 
     pub fn number(&mut self, number: i128) {
         if write!(self.text, "{number}").is_err() {
+            self.is_whole = false;
+        }
+    }
+
+    pub fn kind(&mut self, kind: Kind) {
+        if write!(self.text, "{kind:?}").is_err() {
+            self.is_whole = false;
+        }
+    }
+
+    pub fn rule(&mut self, rule: RuleName) {
+        if write!(self.text, "{rule:?}").is_err() {
             self.is_whole = false;
         }
     }

@@ -1,7 +1,13 @@
-use Rattle.term_bank.proofs.Banks.{placed}
+use Rattle.term_bank.proofs.Indexed.{pushed, placed}
 use Rattle.term_bank.proofs.bank.Bank.place.Goals as goal
 
-pub invariant_of-self-2 : goal.invariant_of-self-2
-invariant_of-self-2 c =
-    placed c.args.self.now c.self.inside.pool.items c.reserve.new.self.items c.push-id.new.self.items c.self.inside.pool.spare c.in_ok-term.term c.args.node.now c.self.view_is c.self.invariant
-    c.in_ok-reserve.ensures.items c.push-id.ensures.items c.in_ok-term.ensures.equal c.requires.below c.requires.new c.requires.room
+pub link-requires-clause-index : goal.link-requires-clause-index
+link-requires-clause-index c =
+    pushed c.self.inside.pool c.push-id.new.self c.in_ok-term.term c.push-id.result c.self.inside.index.newest.items c.self.inside.index.older.items c.self.invariant c.push-id.ensures.items
+    c.push-id.ensures.place
+
+pub invariant_of-self : goal.invariant_of-self
+invariant_of-self c =
+    placed c.args.self.now c.reserve.new.self c.self.inside.pool c.push-id.new.self c.in_ok-term.term c.args.node.now c.push-id.result c.self.inside.index.newest.items c.self.inside.index.older.items
+    c.link.new.self.newest.items c.link.new.self.older.items c.self.view_is c.in_ok-reserve.ensures.terms c.self.invariant c.push-id.ensures.items c.push-id.ensures.spare c.push-id.ensures.place
+    c.in_ok-term.ensures.equal c.requires.below c.requires.new c.requires.room c.link.ensures.index c.link.ensures.places

@@ -1,0 +1,4 @@
+pub mod First
+pub mod Words
+pub mod Numbers
+pub mod Whole

@@ -1,0 +1,4 @@
+//! Decimal numbers at the front of a text.
+#![tactic(auto)]
+
+pub mod number;
