@@ -1,0 +1,8 @@
+pub mod Ranges
+pub mod Readable
+pub mod StableTest
+pub mod Operators
+pub mod Outcomes
+pub mod Listing
+pub mod SameTests
+pub mod Verdicts

@@ -1,0 +1,4 @@
+pub mod Spots
+pub mod Answers
+pub mod Items
+pub mod Testing
