@@ -7,7 +7,7 @@ CORES := $(shell nproc)
 
 .PHONY: run build install test check fmt
 
-# Judges the first example without proving anything first: about a minute.
+# Judges the first example without proving anything first: about two minutes.
 run:
 	@echo "unproved run; \`make test\` proves it"
 	@cd crates/vcc && rt try -- check $(EXAMPLES)/first.c $(EXAMPLES)/first.cert
