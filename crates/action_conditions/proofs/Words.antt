@@ -140,7 +140,7 @@ module _ (l : Language) (t : Ref) (e : Environment l t) where
 
       pub is_stable : IsHeapOf l.program h → Is l t e (node k.Stab (me ∷ x ∷ o ∷ x ∷ [])) (in_stable_set l.program t h r)
       is_stable proper =
-          let law = stable_set_law l.program t h proper r in
+          let law = stable_set_law l.program t h proper.finite r in
           node_has (more (has_me l t e) (more hx (more ho (one hx)))) (record { is_bool = refl; yes = λ s. own_out l.program t h r (law.0 s); holds = λ s. law.1 (own_in l.program t h r s) })
 
       -- in the writes list, or not owned at the entry, where x is the heap there

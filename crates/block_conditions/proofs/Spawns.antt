@@ -248,9 +248,10 @@ module _ (p : Program) (typed : WellTyped p) (f : FunctionInfo) (x : Context) (f
                 (holds_is L t e (node k.Idle (u ∷ st.heap ∷ [])) (node_has (more hu (one z.0.0.heap)) (record { is_bool = refl; yes = λ y. owns_none p h env.heap.heap_of.finite r new.is new.idle; holds = λ y. refl })), tt),
               ),
             ))
-            (beside_specs L t at_ (clause_tests p fi.requires_.items (m.call_scene r h1 vs)) n2 (n2 + length fi.requires_.items) c1 c1 Spawn clauses_ (Gives end) (m.Gives g1) B2 After (ap (λ i. n2 + i) (sym (length-map fi.requires_.items _))) (within_self c1)
+            (beside_specs L t at_ (clause_tests p fi.requires_.items (m.call_scene r h1 vs)) n2 (n2 + length fi.requires_.items) c1 c1 Spawn clauses_ (Gives end) (m.weighed (M.items_overflow p fi.writes.items (m.call_scene r h1 vs)) (m.Gives g1)) B2 After (ap (λ i. n2 + i) (sym (length-map fi.requires_.items _))) (within_self c1)
             (λ e z. clauses_stand num fi is e u r h1_term h1 words vs (refers_ e z) new.is (heap_is e z) p1 fit z.0.1) (λ pass'.
-            beside_gives L t (n2 + length fi.requires_.items) c1 end g1 B2 After (λ e z. let s = z.0.0 in record { spot = s.spot; many = s.many; heap = heap_is e z; locals = s.locals })))))))
+            let done = beside_gives L t (n2 + length fi.requires_.items) c1 end g1 B2 After (λ e z. let s = z.0.0 in record { spot = s.spot; many = s.many; heap = heap_is e z; locals = s.locals }) in
+            record { goes = done.goes; fails = done.fails }))))))
 
         beside_spawn : Beside (language_of p) x.me n (count_of st) (count_of path.gives) path (m.after (eval_all p at_ h l es n) (λ args. M.spawn p at_ num (Some fi) args (n + all_checks es) g)) Before (λ g' e. At p f at_ a hid path.gives g' e)
         beside_spawn =

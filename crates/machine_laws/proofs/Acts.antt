@@ -22,8 +22,8 @@ use Rattle.method.specs.Invariants.{Inv}
 use Rattle.method.specs.Legal.{Legal}
 use Rattle.method.specs.Machine.{in_types, fit_parameters}
 use Rattle.method.specs.Typing.{fits, values, has_type, is_ref, is_pointer, point_to, right_values, simple_ok, inner_ok, is_claim_expr, args_fit, call_ok, action_ok, WellTyped}
-use Rattle.method.specs.Expressions.{Unfit, Gives, Context, Spot, Tested, spec_test, item_tests, clause_tests, is_listed, may_write, after, eval, eval_all, checks, all_checks, scene, call_scene}
-use Rattle.method.specs.Actions.{InLocal, Supply, Fresh, Chosen, Picked, Progress, Took, no_tally, take_thread, items_of, started, spawn, run_simple, right_side, right_checks, store, wrap_object, unwrap_object, free, atomic, run_action, no_choices, one_fits, action_fits, spot, starting, act, callee}
+use Rattle.method.specs.Expressions.{Unfit, Gives, weighed, Context, Spot, Tested, spec_test, item_tests, clause_tests, is_listed, may_write, after, eval, eval_all, checks, all_checks, scene, call_scene}
+use Rattle.method.specs.Actions.{InLocal, Supply, Fresh, Chosen, Picked, Progress, Took, no_tally, take_thread, items_of, items_overflow, started, spawn, run_simple, right_side, right_checks, store, wrap_object, unwrap_object, free, atomic, run_action, no_choices, one_fits, action_fits, spot, starting, act, callee}
 use Rattle.method.proofs.Global.{and_both, same_ref_is, same_ref_self}
 use Rattle.machine_laws.proofs.Outcomes.{OnGave, after_gave, after_any, check_spec_gave, check_specs_gave, end_map, fitting_gave}
 use Rattle.machine_laws.proofs.Typed.{not_both, or_cases, null_is, some_is, struct_type, is_of, to_type, pointer_at, typed_set, Env, eval_of, or_left, or_right, struct_no_claim}
@@ -213,7 +213,7 @@ module _ (p : Program) (typed : WellTyped p) (f : FunctionInfo) (k : ℕ) (fis :
       let x : Context = callee p num h u h1 args in
       let mine : (q : Ref) → is_in q items ≡ true → wrapped me g.heap q ≡ true = λ q i. (items_mine s h.writes.items q e i).0 in
       check_specs_gave at_ (clause_tests p h.requires_.items (call_scene u h1 args)) (n + length items) Spawn
-      (Gives (record g { heap = h1; supply = t.supply; started = g.started ++ (x ∷ []) })) EventOf (λ r.
+      (weighed (items_overflow p h.writes.items (call_scene u h1 args)) (Gives (record g { heap = h1; supply = t.supply; started = g.started ++ (x ∷ []) }))) EventOf (λ r.
       record {
         ready = record { heap = passed_well_formed p typed f at_ thread g env items u new.is mine; types = env.types; locals = env.locals };
         legal = λ good. passed_legal p typed f at_ thread g env items u new.is mine;

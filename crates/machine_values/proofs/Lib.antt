@@ -1,6 +1,5 @@
 pub mod Ranges
 pub mod Readable
-pub mod StableTest
 pub mod Operators
 pub mod Outcomes
 pub mod Listing

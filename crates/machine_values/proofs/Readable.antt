@@ -10,7 +10,7 @@ use Rattle.method.specs.Tables.{is_volatile}
 use Rattle.method.specs.Expressions.{Spot, is_listed, readable}
 use Rattle.method.specs.StableSet.{root, claimed, member, InStableSet, in_stable_set}
 use Rattle.machine_values.specs.Spots.{heap_at}
-use Rattle.machine_values.proofs.StableTest.{stable_set_is, stable_set_has}
+use Rattle.method.proofs.StableTest.{stable_set_law}
 
 or_true : (b : Bool) → b || true ≡ true
 or_true true = refl
@@ -48,5 +48,5 @@ alike false false f g = refl
 -- what was found of the code's heap is the test of that heap with any list
 pub stable_test : (p : Program) (t : Ref) (stored : List Stored) (y found : List Ref) (o : Ref) → ((q : Ref) → IsTrue (is_in q found) ↔ InStableSet p t (heap_of stored) q) → IsFinite (heap_at y stored) → is_in o found ≡ in_stable_set p t (heap_at y stored) o
 stable_test p t stored y found o members finite = alike (is_in o found) (in_stable_set p t (heap_at y stored) o)
-    (λ m. stable_set_has p t (heap_at y stored) finite o (stable_at p t stored (heap_of stored).support y o ((members o).0 m)))
-    (λ m. (members o).1 (stable_at p t stored y (heap_of stored).support o (stable_set_is p t (heap_at y stored) finite o m)))
+    (λ m. (stable_set_law p t (heap_at y stored) finite o).1 (stable_at p t stored (heap_of stored).support y o ((members o).0 m)))
+    (λ m. (members o).1 (stable_at p t stored y (heap_of stored).support o ((stable_set_law p t (heap_at y stored) finite o).0 m)))

@@ -1,17 +1,16 @@
 //! What the tables of a program say.
 
-ghost use Rattle.std.specs.Prelude.{◌≡◌, Some, None, IsTrue, IfSome, IfNone};
-ghost use Rattle.object_types.specs.Values.{is_zero, int};
-ghost use Rattle.object_types.specs.Lookups.{heap_of};
+ghost use Rattle.std.specs.Prelude.{◌≡◌, Some, None, IfSome, IfNone};
+ghost use Rattle.object_types.specs.Values.{int};
 ghost use Rattle.int_ranges.specs.Ranges.{in_range};
-ghost use Rattle.method.specs.Tables.{read, in_type, zero_of, type_of_field, is_volatile, is_approved, struct_of, is_claimable, has_fixed_owns};
+ghost use Rattle.method.specs.Tables.{in_type, is_volatile, is_approved, struct_of, is_claimable, has_fixed_owns};
 
 use crate::values::number;
 use int_ranges::ctype::CType;
 use method::program::{DeclaredType, Program, StructInfo};
-use object_types::heap::Heap;
 use object_types::references::{NULL, Ref};
 use object_types::values::Value;
+pub use spec_eval::status::{read, type_of_field, zero_of};
 
 /// The type number of claims.
 pub const CLAIMS: u32 = 2;
@@ -40,18 +39,6 @@ pub fn has_number(ty: CType, value: Value) -> bool
     in_range(ty, number(value))
 }
 
-/// The zero of a declared type.
-#[tactic(auto, unfolding(object_types::specs::References::same_ref))]
-pub fn zero_of(ty: DeclaredType) -> Value
-    ensures value { result ≡ zero_of ty }
-    ensures zero { IsTrue (is_zero result) }
-{
-    match ty {
-        DeclaredType::Integer(_) => Value::Int(0),
-        DeclaredType::Pointer(_) | DeclaredType::Object | DeclaredType::Claim => Value::Ref(NULL),
-    }
-}
-
 /// Whether the value is one of the declared type.
 #[tactic(auto, unfolding(method::specs::Tables::in_type))]
 pub fn in_type(ty: DeclaredType, value: Value) -> bool
@@ -65,16 +52,6 @@ pub fn in_type(ty: DeclaredType, value: Value) -> bool
         (DeclaredType::Pointer(number), Value::Ref(o)) => o.is_same(NULL) || o.ty == number,
         (DeclaredType::Object, Value::Ref(o)) => (o.ty != 0 || o.serial == 0) && o.ty != THREADS,
         (DeclaredType::Claim, Value::Ref(o)) => o.is_same(NULL) || o.ty == CLAIMS,
-    }
-}
-
-/// The declared type of a field.
-pub fn type_of_field(program: &Program, field: u32) -> DeclaredType
-    ensures { result ≡ type_of_field program.now field }
-{
-    match program.fields.get(field as usize) {
-        Some(info) => info.ty,
-        None => DeclaredType::Object,
     }
 }
 
@@ -96,13 +73,6 @@ pub fn is_approved(program: &Program, field: u32) -> bool
         Some(info) => info.is_approved,
         None => false,
     }
-}
-
-/// The value of the object's field.
-pub fn read(program: &Program, heap: &Heap, o: Ref, field: u32) -> Value
-    ensures { result ≡ read program.now (heap_of heap.now) o field }
-{
-    heap.read(o, field, zero_of(type_of_field(program, field)))
 }
 
 /// The struct with the type number.

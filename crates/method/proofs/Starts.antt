@@ -9,9 +9,9 @@ use Rattle.object_types.specs.References.{thread}
 use Rattle.method.specs.SpecValue.{holds}
 use Rattle.method.specs.Overflow.{Overflow}
 use Rattle.method.specs.Expressions.{End, Misfit, Failed, Gave, Outcome, Context, Spot, call_scene, spec_test, check, weighed}
-use Rattle.method.specs.Actions.{spot, fitting, callee, clauses_hold}
+use Rattle.method.specs.Actions.{spot, fitting, callee, clauses_hold, items_overflow}
 use Rattle.method.specs.Machine.{State, Thread, all_true, fit_parameters, IsStart}
-use Rattle.method.specs.Starts.{requires_checked, items_overflow, alone, start_in, start_of, start, StartLaw}
+use Rattle.method.specs.Starts.{requires_checked, alone, start_in, start_of, start, StartLaw}
 
 abbrev given : {A : Type 0} → A → End A → A
 given a Misfit = a

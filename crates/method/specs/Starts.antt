@@ -2,27 +2,19 @@
 use Rattle.std.specs.Prelude.{◌≡◌, ◌↔◌, List, [], ◌∷◌, Option, Some, None, slice_get}
 use Rattle.object_types.specs.declared.values.Value.{Value}
 use Rattle.method.specs.declared.program.CheckKind.TheVariants.{Requires}
-use Rattle.method.specs.declared.program.Spec.{Spec}
 use Rattle.method.specs.declared.program.Clause.{Clause}
 use Rattle.method.specs.declared.program.FunctionInfo.{FunctionInfo}
 use Rattle.method.specs.declared.program.Program.{Program}
 use Rattle.object_types.specs.References.{thread}
 use Rattle.object_types.specs.Heap.{Heap}
-use Rattle.method.specs.SpecValue.{Scene}
-use Rattle.method.specs.Overflow.{Overflow, or_else, overflow}
 use Rattle.method.specs.Expressions.{Outcome, Unfit, Gives, Gave, Context, call_scene, spec_test, check_spec, weighed}
-use Rattle.method.specs.Actions.{spot, fitting, callee}
+use Rattle.method.specs.Actions.{spot, fitting, callee, items_overflow}
 use Rattle.method.specs.Machine.{State, begin, fit_parameters, IsStart}
 
 -- the requires clauses of a function that begins, and what comes behind them
 abbrev pub requires_checked : {A : Type 0} → Program → Context → List Clause → Outcome A → Outcome A
 requires_checked p x [] o = o
 requires_checked p x (c ∷ cs) o = check_spec (spot x [] c.line) (spec_test p c.spec (call_scene x.me x.entry x.args)) 0 Requires (requires_checked p x cs o)
-
--- the first value past 128 bits in the items of a writes list
-abbrev pub items_overflow : Program → List Spec → Scene → Option Overflow
-items_overflow p [] s = None
-items_overflow p (e ∷ es) s = or_else (overflow p e s) (items_overflow p es s)
 
 -- one thread, about to run this function
 abbrev pub alone : Program → Context → State

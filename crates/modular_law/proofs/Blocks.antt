@@ -18,13 +18,13 @@ use Rattle.object_types.specs.Values.{referent, truth, is_zero_int}
 use Rattle.object_types.specs.Sets.{is_in, every}
 use Rattle.object_types.specs.Heap.{Heap, Record, IsFinite, IsClosedIn, put, hand_over, mutable, wrapped, closed_in, is_open, is_closed}
 use Rattle.method.specs.Tables.{local}
-use Rattle.method.specs.Expressions.{Outcome, Context, Spot, Tested, may_write, checks, all_checks, inv_test, spec_test, scene, call_scene, clause_tests, item_tests}
-use Rattle.method.specs.Actions.{InLocal, Supply, Chosen, Progress, Took, Tally, no_tally, tally_plus, Deferred, spot, starting, inner_spot, inner_checks, row_checks, inner_tally, row_tally, list_checks, list_tally, right_checks, run_inner, run_row, run_list, listed_exprs, listed_objects, plain_listed, check_deferred, block_end, atomic, wrapped_set, set_overflow, wrap_object, unwrap_object, free, started, spawn, items_of, run_action, action_fits, act, callee}
+use Rattle.method.specs.Expressions.{Outcome, Gives, weighed, Context, Spot, Tested, may_write, checks, all_checks, inv_test, spec_test, scene, call_scene, clause_tests, item_tests}
+use Rattle.method.specs.Actions.{InLocal, Supply, Chosen, Progress, Took, Tally, no_tally, tally_plus, Deferred, spot, starting, inner_spot, inner_checks, row_checks, inner_tally, row_tally, list_checks, list_tally, right_checks, run_inner, run_row, run_list, listed_exprs, listed_objects, plain_listed, check_deferred, block_end, atomic, wrapped_set, set_overflow, wrap_object, unwrap_object, free, started, spawn, items_of, items_overflow, run_action, action_fits, act, callee}
 use Rattle.method.specs.Text.{inner_sets, inner_row_sets, inner_list_sets, action_sets}
 use Rattle.method.proofs.Global.{same_ref_is}
 use Rattle.modular_law.proofs.Ends.{Both, both_gives, both_check, both_checked, both_spec}
 use Rattle.modular_law.proofs.Walks.{Out, Sub, sub_left, sub_right, is_settled, put_settled, hand_over_settled, Above, Ready, Went, went_still, went_on, went_heap}
-use Rattle.modular_law.proofs.Supplies.{Same, Sim, lend, sim_gives, sim_unfit, sim_mono, sim_check, sim_each, sim_spec, sim_specs, sim_fitting, sim_if, sim_value, sim_after, thread_sim}
+use Rattle.modular_law.proofs.Supplies.{Same, Sim, lend, sim_gives, sim_ends, sim_unfit, sim_mono, sim_check, sim_each, sim_spec, sim_specs, sim_fitting, sim_if, sim_value, sim_after, thread_sim}
 use Rattle.modular_law.proofs.Numbers.{eval_alike, eval_all_alike}
 use Rattle.modular_law.proofs.Acts.{Goes, Prepared, heap_goes, store_sim, assigned_sim, simple_sim}
 use Rattle.machine_laws.proofs.Heaps.{put_finite, hand_finite}
@@ -208,14 +208,15 @@ module _ (p : Program) (at_ : Spot) (set : List ℕ) where
   started_sim k f args items t n m g r above =
       let h1 = hand_over g.heap items t.which in
       let j : Progress = record g { heap = h1; supply = t.supply; started = g.started ++ (callee p k f t.which h1 args ∷ []) } in
+      let w = items_overflow p f.writes.items (call_scene t.which h1 args) in
       sim_specs _ _ at_ (clause_tests p f.requires_.items (call_scene t.which h1 args)) n m Spawn _ _
-      (sim_gives lend (Acted at_.context.me set true g) j (λ news. lend news j) (λ rest. refl) (record {
+      (sim_ends lend (Acted at_.context.me set true g) (Gives j) (weighed w (Gives j)) (λ news. Gives (lend news j)) (λ news. weighed w (Gives (lend news j))) refl (λ news. refl) (sim_gives lend (Acted at_.context.me set true g) j (λ news. lend news j) (λ rest. refl) (record {
         ready = record { finite = hand_finite g.heap items t.which r.finite; above = above };
         started = λ e. absurd (both_ways true e refl);
         unopened = λ q c z. ap is_open (handed_mode g.heap items t.which q) ∙ closed_unopened (g.heap.get q).mode c;
         size = refl;
         others = λ i u. refl;
-      }))
+      })))
 
   spawn_sim : (k : ℕ) (f : Option FunctionInfo) (args : List Value) (n m : ℕ) (g : Progress) → Prepared p at_ set g →
       Sim lend (Acted at_.context.me set true g) (spawn p at_ k f args n g) (λ news. spawn p at_ k f args m (lend news g))

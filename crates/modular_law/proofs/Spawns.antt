@@ -13,8 +13,8 @@ use Rattle.method.specs.declared.program.Program.{Program}
 use Rattle.object_types.specs.References.{thread}
 use Rattle.object_types.specs.Heap.{Heap, hand_over, wrapped}
 use Rattle.method.specs.Legal.{Good}
-use Rattle.method.specs.Expressions.{Gives, Gave, Context, Spot, may_write, eval_all, all_checks, call_scene, clause_tests, item_tests}
-use Rattle.method.specs.Actions.{Supply, take_thread, spawn, started, run_action, Progress, spot, starting, act, items_of, no_choices, callee}
+use Rattle.method.specs.Expressions.{Gives, Gave, weighed, Context, Spot, may_write, eval_all, all_checks, call_scene, clause_tests, item_tests}
+use Rattle.method.specs.Actions.{Supply, take_thread, spawn, started, run_action, Progress, spot, starting, act, items_of, items_overflow, no_choices, callee}
 use Rattle.method.specs.Machine.{Activation, begin, fit_parameters, requires_hold}
 use Rattle.method.specs.LocalRuns.{AllLocalOk}
 use Rattle.method.specs.Typing.{WellTyped, stmt_ok, call_ok as call_typed}
@@ -67,7 +67,7 @@ module _ (p : Program) (wt : WellTyped p) (local : AllLocalOk p) (last : ℕ) {t
           let took = after_gave (take_thread supply x.me h) (λ u. started p at_ k i b.value ws u.which u.supply (0 + all_checks es.items + length ws) (starting h a.locals supply)) g first.1 in
           let u = took.value.which in
           let made : Progress = record (starting h a.locals supply) { heap = hand_over h ws u; supply = took.value.supply; started = [] ++ (callee p k i u (hand_over h ws u) b.value ∷ []) } in
-          let last_one = specs_gave at_ Spawn (Gives made) g (clause_tests p i.requires_.items (call_scene u (hand_over h ws u) b.value)) (0 + all_checks es.items + length ws) took.then_gave in
+          let last_one = specs_gave at_ Spawn (weighed (items_overflow p i.writes.items (call_scene u (hand_over h ws u) b.value)) (Gives made)) g (clause_tests p i.requires_.items (call_scene u (hand_over h ws u) b.value)) (0 + all_checks es.items + length ws) took.then_gave in
           let same : made ≡ g = gave_is made g last_one.1 in
           subst (λ (j : Progress). AllStart p j.heap j.started) {x = made} same (
             started_thread k i d b.value fit u (thread_gave supply x.me h took.value here.above took.gave) (subst (λ (j : Progress). Good p j.heap) {y = made} (sym {a = made} same) good')

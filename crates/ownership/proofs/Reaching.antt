@@ -186,4 +186,4 @@ pub reached_list : (p : Program) (t : Ref) (h : Heap) (set : List Ref) → is_or
 unfolding in_stable_set
 reached_list p t h set ordered exact fit =
     same_members set (stable_set p t h) ordered (stable_ordered p t h)
-    (λ q. let law = stable_set_law p t h fit q in one_truth _ _ (λ m. law.1 ((exact q).0 m)) (λ m. (exact q).1 (law.0 m)))
+    (λ q. let law = stable_set_law p t h fit.finite q in one_truth _ _ (λ m. law.1 ((exact q).0 m)) (λ m. (exact q).1 (law.0 m)))

@@ -11,7 +11,7 @@ use object_types::references::Ref;
 use std::alloc::AllocError;
 
 /// Gives the members another owner. Of want of memory it says nothing.
-fn hand_over(h: &mut Heap, members: &[Ref], owner: Ref) -> Result<(), AllocError>
+pub fn hand_over(h: &mut Heap, members: &[Ref], owner: Ref) -> Result<(), AllocError>
     ensures ok { OnOk result (look_up h.new ≡ (hand_over (heap_of h.old) members.now owner).get) }
 {
     for member in members {

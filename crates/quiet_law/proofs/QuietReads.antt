@@ -123,8 +123,8 @@ module _ (p : Program) (t : Ref) (h k : Heap) (r : Rely p t h k) where
 
   stable_test_same : (o : Ref) → in_stable_set p t k o ≡ in_stable_set p t h o
   stable_test_same o =
-      let a = stable_set_law p t k r.after.well_formed.heap_of o in
-      let b = stable_set_law p t h r.before.well_formed.heap_of o in
+      let a = stable_set_law p t k r.after.well_formed.heap_of.finite o in
+      let b = stable_set_law p t h r.before.well_formed.heap_of.finite o in
       same_test (in_stable_set p t k o) (in_stable_set p t h o) (λ y. b.1 (stable_before o (a.0 y))) (λ y. a.1 ((r.stable o (b.0 y)).1))
 
 pub rely_keeps_own : RelyKeepsOwn
@@ -147,7 +147,7 @@ module _ (p : Program) (x : Context) (h k : Heap) (r : Rely p x.me h k) (choices
       by_stable : not (is_volatile p f) && in_stable_set p x.me h o ≡ true → read p k o f ≡ read p h o f
       by_stable y =
           let z = and_both (not (is_volatile p f)) (in_stable_set p x.me h o) y in
-          ap (or_zero (zero_of (type_of_field p f))) ((r.stable o ((stable_set_law p x.me h r.before.well_formed.heap_of o).0 z.1)).0.fields f (not-true (is_volatile p f) z.0))
+          ap (or_zero (zero_of (type_of_field p f))) ((r.stable o ((stable_set_law p x.me h r.before.well_formed.heap_of.finite o).0 z.1)).0.fields f (not-true (is_volatile p f) z.0))
 
   checked_same : (o : Ref) (f n : ℕ) (b c : Bool) → c ≡ b → (b ≡ true → read p k o f ≡ read p h o f) → check at_ c n Read (Gives (read p k o f)) ≡ check at_ b n Read (Gives (read p h o f))
   checked_same o f n true true e same = ap Gives (same refl)

@@ -22,8 +22,8 @@ use Rattle.object_types.specs.Shapes.{has_entry}
 use Rattle.method.specs.SpecValue.{holds}
 use Rattle.method.specs.Legal.{Good}
 use Rattle.method.specs.Rely.{Rely}
-use Rattle.method.specs.Expressions.{Outcome, Gives, Context, eval, eval_all, may_write, inv_test, call_scene, clause_tests}
-use Rattle.method.specs.Actions.{InLocal, Supply, Chosen, Progress, Valued, spot, starting, new_object, malloc, store, wrap_object, spawn, started, no_choices, malloc_fits, act, callee, take_thread, action_fits}
+use Rattle.method.specs.Expressions.{Outcome, Gives, weighed, Context, eval, eval_all, may_write, inv_test, call_scene, clause_tests}
+use Rattle.method.specs.Actions.{InLocal, Supply, Chosen, Progress, Valued, spot, starting, new_object, malloc, store, wrap_object, spawn, started, no_choices, malloc_fits, act, callee, items_overflow, take_thread, action_fits}
 use Rattle.method.specs.Machine.{fit_parameters, requires_hold, begin}
 use Rattle.method.specs.SafeRuns.{Branch, RunsRow, RunsBody, Goes}
 use Rattle.method.specs.Trace.{Memory}
@@ -135,9 +135,9 @@ module _ (m : Memory) where
       let pre = holds p (holds_claim m) (call_scene u h1 (Refers r ∷ v ∷ Refers c ∷ [])) in
       let passed : IsHeld m u h1 c r v = subst (λ (w : Heap). IsHeld m u (hand_over w (c ∷ []) u) c r v) (sym here) (passed_held x.me u k c r v theirs) in
       let g1 : Progress = record g { heap = h1; supply = s; started = g.started ++ (callee p 0 (worker m) u h1 (Refers r ∷ v ∷ Refers c ∷ []) ∷ []) } in
-      pass_specs label (Goes rest) at_ (clause_tests p (worker m).requires_.items (call_scene u h1 (Refers r ∷ v ∷ Refers c ∷ []))) n Spawn (Gives g1)
+      pass_specs label (Goes rest) at_ (clause_tests p (worker m).requires_.items (call_scene u h1 (Refers r ∷ v ∷ Refers c ∷ []))) n Spawn (weighed (items_overflow p (worker m).writes.items (call_scene u h1 (Refers r ∷ v ∷ Refers c ∷ []))) (Gives g1))
       (both_and pre true (held_passes m u h1 c r v passed) refl)
-      (pass_gives label (Goes rest) g1 (subst (λ (w : Heap). rest (hand_over w (c ∷ []) u) g.locals) (sym here) (subst (rest (hand_over k (c ∷ []) u)) (sym ls) go)))
+      (record { passes = subst (λ (w : Heap). rest (hand_over w (c ∷ []) u) g.locals) (sym here) (subst (rest (hand_over k (c ∷ []) u)) (sym ls) go) })
 
   spawn_passes : (label : ℕ) (rest : Heap → List Value → Type 0) (x : Context) (choices : List Value) (news : List Ref) (n : ℕ) (k : Heap) (v : Value) (c r : Ref) → IsHeld m x.me k c r v →
       writable x.me x.entry x.writes c ≡ true →

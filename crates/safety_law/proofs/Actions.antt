@@ -138,7 +138,7 @@ module _ (T : Table) where
         specs_within T at_ (item_tests p (λ o. wrapped at_.context.me g.heap o && may_write at_ o) f.writes.items sc) ws n Spawn _ refl (no_more _ _ (length-map f.writes.items _)) first
         (after_within T (take_thread g.supply at_.context.me g.heap) _ (thread_within T p at_ g.supply at_.context.me g.heap) (λ t.
         specs_within T at_ (clause_tests p f.requires_.items (call_scene t.which (hand_over g.heap items t.which) args)) rs (n + length items) Spawn _ refl
-        (no_more _ _ (length-map f.requires_.items _)) last (gives_within T _)))
+        (no_more _ _ (length-map f.requires_.items _)) last (record { fails = tt })))
 
     action_within : (a : Action) (n : ℕ) (g : Progress) → at_.inside ≡ false → BelowTally no_tally g → LabelsAt T (action_labels p at_.line a) n → Within T (run_action p at_ a n g)
     action_within (Simply s) n g out y z = simple_within T p at_ s n no_tally g (subst (λ b. At (simple_kinds p b s) n) (sym out) (on_one_line T at_.line (simple_kinds p false s) n z))

@@ -1,12 +1,12 @@
 //! The value of an annotation's expression.
 #![tactic(auto)]
 
-mod arithmetic;
+pub mod arithmetic;
 mod claims;
 pub mod env;
 pub mod eval;
 mod expression;
 mod place;
-mod status;
-mod values;
+pub mod status;
+pub mod values;
 mod words;

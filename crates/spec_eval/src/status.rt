@@ -77,7 +77,7 @@ pub fn contains(set: &[Ref], member: Ref) -> bool
 
 /// The zero of a declared type.
 #[tactic(auto, unfolding(object_types::specs::References::same_ref))]
-fn zero_of(ty: DeclaredType) -> Value
+pub fn zero_of(ty: DeclaredType) -> Value
     ensures value { result ≡ zero_of ty }
     ensures zero { IsTrue (is_zero result) }
 {
@@ -88,7 +88,7 @@ fn zero_of(ty: DeclaredType) -> Value
 }
 
 /// The declared type of a field.
-fn type_of_field(program: &Program, field: u32) -> DeclaredType
+pub fn type_of_field(program: &Program, field: u32) -> DeclaredType
     ensures { result ≡ type_of_field program.now field }
 {
     match program.fields.get(field as usize) {
