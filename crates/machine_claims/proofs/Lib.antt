@@ -1,0 +1,11 @@
+pub mod Listing
+pub mod Mapping
+pub mod Membership
+pub mod Claimable
+pub mod Guarding
+pub mod Numbering
+pub mod Made
+pub mod Counted
+pub mod Ended
+pub mod Exchanging
+pub mod Calling

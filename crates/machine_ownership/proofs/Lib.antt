@@ -1,0 +1,9 @@
+pub mod Sets
+pub mod Members
+pub mod Changing
+pub mod Scenes
+pub mod Naming
+pub mod Wraps
+pub mod Idle
+pub mod Searching
+pub mod Spawns

@@ -1,0 +1,4 @@
+pub mod Callees
+pub mod Items
+pub mod Owned
+pub mod Threads
