@@ -1,0 +1,11 @@
+pub mod Printing
+pub mod Left
+pub mod Texts
+pub mod Onward
+pub mod Printed
+pub mod Fields
+pub mod Going
+pub mod Events
+pub mod Starting
+pub mod Stages
+pub mod LockRow

@@ -1,0 +1,8 @@
+//! Replays of schedules: the machine runs a schedule's events, and a line is printed for each as it goes.
+#![tactic(auto)]
+
+pub mod fault;
+mod lines;
+mod put;
+mod records;
+pub mod replay;
