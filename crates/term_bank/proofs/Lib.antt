@@ -1,4 +1,2 @@
 pub mod Banks
-pub mod Chains
-pub mod Indexed
-pub mod Trees
+pub mod Literals

@@ -1,32 +1,30 @@
 ghost use Rattle.std.specs.Prelude.{◌≡◌, ℕ, ◌+◌, ◌<◌, ◌≤◌, ◌++◌, ◌∷◌, ◌↔◌, [], length, take, IfOk, IfErr, OnOk, OnErr, IsOk, All, Contains, slice_get, slice_index_or, MatchOption, Some, Ok, Err};
 ghost use Rattle.std.specs.Prelude.{if◌then◌else◌, ◌⊎◌};
 
-use crate::index::Index;
-use std::alloc::{AllocError, Global};
+use std::alloc::{AllocError, AllocFailed, Global};
 use std::marker::Model;
-use term_pool::{Mark, Pool};
+use term_graph::nodes::Nodes;
+use term_pool::Mark;
 use terms::term::Term;
 
 /// The greatest number of terms that a bank holds.
 pub const TERMS: usize = 1_048_576;
 
-/// Terms, each above its arguments, in which no term stands twice; an index says where each one stands.
+/// Terms, each above its arguments, in which no term stands twice: a graph of so many nodes at most.
 #[derive(Debug, Drop)]
 pub struct Bank {
-    pool: Pool<Term>,
-    index: Index,
+    nodes: Nodes,
 }
 
 impl Model for Bank {
-    ghost use Rattle.std.specs.Prelude.{◌-◌, length};
+    ghost use Rattle.std.specs.Prelude.{◌≤◌, length};
     ghost use Rattle.term_bank.specs.Bank.{HeldTerms};
-    ghost use Rattle.term_bank.specs.Index.{IsIndexed};
 
     ghost Value = { HeldTerms };
 
-    ghost view = { λ b. record { terms = b.pool.items; spare = length b.index.older.items - length b.pool.items } };
+    ghost view = { λ b. record { terms = b.nodes.terms; spare = b.nodes.spare } };
 
-    ghost invariant = { λ b. IsIndexed b.pool b.index.newest.items b.index.older.items };
+    ghost invariant = { λ b. length b.nodes.terms ≤ 1_048_576 };
 }
 
 /// Why a bank gives a node no number.
@@ -35,6 +33,28 @@ pub enum BankFault {
     /// The node is new, and as many terms are held as a bank may hold.
     BankFull,
     OutOfMemory,
+}
+
+impl From<AllocError> for BankFault {
+    ghost use Rattle.std.specs.Prelude.{◌≡◌};
+    ghost use Rattle.term_bank.specs.declared.bank.BankFault.TheVariants.{OutOfMemory};
+
+    ghost from_gives = { λ _ fault. fault ≡ OutOfMemory };
+
+    fn from(_want: AllocError) -> BankFault {
+        BankFault::OutOfMemory
+    }
+}
+
+impl<T: Drop> From<AllocFailed<T>> for BankFault {
+    ghost use Rattle.std.specs.Prelude.{◌≡◌};
+    ghost use Rattle.term_bank.specs.declared.bank.BankFault.TheVariants.{OutOfMemory};
+
+    ghost from_gives = { λ _ fault. fault ≡ OutOfMemory };
+
+    fn from(_want: AllocFailed<T>) -> BankFault {
+        BankFault::OutOfMemory
+    }
 }
 
 impl Bank {
@@ -47,8 +67,7 @@ impl Bank {
         ensures { result.terms ≡ [] }
     {
         Bank {
-            pool: Pool::new(alloc),
-            index: Index::new(alloc),
+            nodes: Nodes::new(alloc),
         }
     }
 
@@ -56,14 +75,15 @@ impl Bank {
         ensures len { result ≡ length self.now.terms }
         ensures bound { length self.now.terms ≤ 1_048_576 }
     {
-        self.pool.len()
+        self.nodes.len()
     }
 
     /// What each bank keeps, for proofs.
+    #[tactic(auto, using(crate::proofs::Banks::bank_of))]
     pub fn known(&self)
         ensures { IsBank self.now.terms }
     {
-        let _ = &self.pool;
+        self.nodes.known();
     }
 
     /// Makes room for so many more terms.
@@ -73,15 +93,7 @@ impl Bank {
         ensures err { OnErr result (self.new ≡ self.old) }
         ensures room { terms ≤ self.old.spare → IsOk result × (self.new ≡ self.old) }
     {
-        let held = self.pool.len();
-        if terms <= self.index.places() - held {
-            return Ok(());
-        }
-        let Some(places) = held.checked_add(terms) else {
-            return Err(AllocError);
-        };
-        self.pool.reserve(terms)?;
-        self.index.reserve(&self.pool, places)
+        self.nodes.reserve(terms)
     }
 
     pub fn node(&self, id: u32) -> &Term
@@ -89,11 +101,11 @@ impl Bank {
         ensures node { slice_get self.now.terms id ≡ Some result.now }
         ensures below { All (λ a. a < id) result.now.args }
     {
-        self.pool.get(id as usize)
+        self.nodes.node(id)
     }
 
     /// The number of the equal term, old or new.
-    #[tactic(auto, using(crate::proofs::Banks::contained_at, std::proofs::lemmas::Option::slice_get_within))]
+    #[tactic(auto, using(term_graph::proofs::Graphs::contained_at, std::proofs::lemmas::Option::slice_get_within))]
     pub fn intern(&mut self, node: &Term) -> Result<u32, BankFault>
         requires { All (λ a. a < length self.old.terms) node.now.args }
         ensures interned { IfOk result (λ id. Interns self.old.terms node.now self.new.terms id) }
@@ -105,10 +117,10 @@ impl Bank {
         ensures spare { OnOk result ((¬ Contains self.old.terms node.now) → 0 < self.old.spare → self.new.spare + 1 ≡ self.old.spare) }
         ensures err { OnErr result (self.new ≡ self.old) }
     {
-        if let Some(id) = self.index.find(&self.pool, node) {
+        if let Some(id) = self.nodes.find(node) {
             return Ok(id);
         }
-        if self.pool.len() >= TERMS {
+        if self.nodes.len() >= TERMS {
             return Err(BankFault::BankFull);
         }
         match self.place(node) {
@@ -118,7 +130,6 @@ impl Bank {
     }
 
     /// Places a new term behind the others.
-    #[tactic(auto, using(crate::proofs::Banks::bank_pushed))]
     fn place(&mut self, node: &Term) -> Result<u32, AllocError>
         requires below { All (λ a. a < length self.old.terms) node.now.args }
         requires new { ¬ Contains self.old.terms node.now }
@@ -129,27 +140,23 @@ impl Bank {
         ensures err { OnErr result (self.new ≡ self.old) }
     {
         let term = node.copy()?;
-        self.reserve(1)?;
-        let id = self.pool.push(term);
-        self.index.link(&self.pool, id);
-        Ok(id as u32)
+        self.nodes.place(term)
     }
 
     /// How many terms there are, to come back to.
     pub fn mark(&self) -> Mark
         ensures { result.length ≡ length self.now.terms }
     {
-        self.pool.mark()
+        self.nodes.mark()
     }
 
     /// Gives up the terms that are new since the mark.
-    #[tactic(auto, using(crate::proofs::Banks::bank_taken))]
+    #[tactic(auto, using(term_graph::proofs::Graphs::taken_few))]
     pub fn release(&mut self, mark: Mark)
         requires { mark.length ≤ length self.old.terms }
         ensures terms { self.new.terms ≡ take mark.length self.old.terms }
         ensures spare { self.new.spare + mark.length ≡ self.old.spare + length self.old.terms }
     {
-        self.index.unlink(&self.pool, mark.len());
-        self.pool.release(mark);
+        self.nodes.release(mark);
     }
 }

@@ -2,5 +2,5 @@
 #![tactic(auto)]
 
 pub mod bank;
-mod index;
 pub mod law;
+pub mod literal;

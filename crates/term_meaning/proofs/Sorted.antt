@@ -86,7 +86,7 @@ map_entry f [] n = refl
 map_entry f (x ∷ xs) zero = refl
 map_entry f (x ∷ xs) (suc n) = map_entry f xs n
 
-entry_at : (p : Program) (n : ℤ) → entry (column_sorts p) n ≡ option_map (sorts_of p) (column_at p n)
+pub entry_at : (p : Program) (n : ℤ) → entry (column_sorts p) n ≡ option_map (sorts_of p) (column_at p n)
 entry_at p (pos n) = map_entry (sorts_of p) (columns_of p) n
 entry_at p (negsuc n) = refl
 

@@ -2,7 +2,6 @@
 
 use std::alloc::{AllocError, Global};
 use term_bank::bank::Bank;
-use term_eval::literal::literal_value;
 use terms::term::{Args, Kind, Term};
 
 /// The number that a term without arguments is, as the only one of a bank.
@@ -11,7 +10,7 @@ fn value_of(alloc: Global, kind: Kind, index: i128) -> Result<Option<i128>, Allo
     let node = Term { kind, index, args };
     let mut bank = Bank::new(alloc);
     match bank.intern(&node) {
-        Ok(id) => Ok(literal_value(&bank, id)),
+        Ok(id) => Ok(bank.literal(id)),
         Err(_) => Err(AllocError),
     }
 }

@@ -1,4 +1,5 @@
-use Rattle.term_bank.proofs.Trees.{equal, only, below, numbered, numbered_same}
+use Rattle.term_graph.proofs.Trees.{only}
+use Rattle.term_bank.proofs.Banks.{equal, below, numbered, numbered_same}
 use Rattle.term_bank.proofs.law.numbers_stand_for_trees.Goals as goal
 
 pub returns-clause-equal : goal.returns-clause-equal

@@ -1,6 +1,0 @@
-use Rattle.std.proofs.Common.{◌≡◌, ◌≤◌, length}
-use Rattle.term_bank.specs.Index.{IsIndex}
-use Rattle.term_bank.proofs.index.Index.unlink.Given as goal
-
-abbrev pub invariant-loop-id : goal.invariant-loop-id
-invariant-loop-id l = record { first : l.first ≤ l.id; index : IsIndex l.pool.items l.id l.self.newest.items l.self.older.items; places : length l.self.older.items ≡ length l.fn.self.older.items }
