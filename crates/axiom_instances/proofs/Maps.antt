@@ -22,12 +22,12 @@ use Rattle.axiom_instances.proofs.Invariants.{plain_one}
 abbrev pub set : ℕ → Formula → Formula → List Formula → Formula → Formula
 set n h o ks v = Node k.Set (pos n) (With h (With o (trees (ks ++ v ∷ []))))
 
-front_of : (vs : List Value) (w : Value) → but_last (map scalar (vs ++ w ∷ [])) ≡ map scalar vs
+pub front_of : (vs : List Value) (w : Value) → but_last (map scalar (vs ++ w ∷ [])) ≡ map scalar vs
 front_of [] w = refl
 front_of (v ∷ []) w = refl
 front_of (v ∷ u ∷ vs) w = ap (λ xs. scalar v ∷ xs) (front_of (u ∷ vs) w)
 
-end_of : (vs : List Value) (w : Value) → last (map scalar (vs ++ w ∷ [])) ≡ scalar w
+pub end_of : (vs : List Value) (w : Value) → last (map scalar (vs ++ w ∷ [])) ≡ scalar w
 end_of [] w = refl
 end_of (v ∷ []) w = refl
 end_of (v ∷ u ∷ vs) w = end_of (u ∷ vs) w
@@ -44,7 +44,7 @@ same_place_self (ShapeAt n vs) = and_from _ _ (eq-eqb n n refl) (values_order.it
 pub read_there : (x : RawHeap) (c : Place) (o : Ref) (v : Scalar) → store_at x c o v c o ≡ v
 read_there x c o v = ap (λ b. cond b v (x c o)) (and_from _ _ (same_place_self c) (same_ref_self o))
 
-read_elsewhere : (x : RawHeap) (c d : Place) (o q : Ref) (v : Scalar) → ((d ≡ c) → (q ≡ o) → ⊥) → store_at x c o v d q ≡ x d q
+pub read_elsewhere : (x : RawHeap) (c d : Place) (o q : Ref) (v : Scalar) → ((d ≡ c) → (q ≡ o) → ⊥) → store_at x c o v d q ≡ x d q
 read_elsewhere x c d o q v h = by_test (same_place d c && same_ref q o) refl
   where
     by_test : (b : Bool) → (same_place d c && same_ref q o) ≡ b → cond (same_place d c && same_ref q o) v (x d q) ≡ x d q
@@ -70,7 +70,7 @@ module _ {l : Language} {e : Env} where
     map_3 {i} {q} {s} js {us} c' is' f g apart = eq_holds (get_has js c' is' (set_has ks c is a b m d) f g) (get_has js c' is' a f g) (ap PlainValue (read_elsewhere x (place_of c (map scalar vs)) (place_of c' (map scalar us)) r s (scalar w) (λ same _. apart same)))
 
 -- equal places have equal keys, where these have sorts
-keys_same : (p : Program) (ss : List HoleSort) (us vs : List Value) → HaveSorts p (map term_sort ss) us → HaveSorts p (map term_sort ss) vs → map scalar us ≡ map scalar vs → us ≡ vs
+pub keys_same : (p : Program) (ss : List HoleSort) (us vs : List Value) → HaveSorts p (map term_sort ss) us → HaveSorts p (map term_sort ss) vs → map scalar us ≡ map scalar vs → us ≡ vs
 keys_same p [] us vs h k e = h ∙ sym k
 keys_same p (s ∷ ss) us vs h k e =
     let f : scalar h.0 ∷ map scalar h.1 ≡ scalar k.0 ∷ map scalar k.1 = ap (map scalar) (sym h.2) ∙ e ∙ ap (map scalar) k.2 in

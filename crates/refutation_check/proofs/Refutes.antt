@@ -4,29 +4,29 @@ use Rattle.std.proofs.lemmas.Option.{slice_get_within, slice_get_cases}
 use borrow.Author.Count.{below_more}
 use Rattle.terms.specs.declared.term.Term.{Term}
 use Rattle.terms.specs.declared.term.Literal.{Literal}
-use Rattle.term_eval.specs.Meaning.{Env, Value, truth, IsValuation, clause_true, IsAlwaysTrue}
+use Rattle.term_meaning.specs.Meaning.{Language, Env, IsEnv, Value, truth, IsValuation, clause_true, IsAlwaysTrue}
 use Rattle.vcc_rules.specs.Law.{EarlierHold, IsConsequence, IsWithin, AreWithin}
 use Rattle.vcc_rules.specs.Sound.{root_sound, connective_sound, chain_sound}
-use Rattle.vcc_rules.specs.EqualitySound.{refl_sound, sym_sound, trans_sound}
+use Rattle.rule_equality.specs.Sound.{refl_sound, sym_sound, trans_sound}
 use Rattle.cert_format.specs.declared.certificate.RuleName.{RuleName}
 use Rattle.cert_format.specs.declared.certificate.RuleName.TheVariants as r
 use Rattle.cert_format.specs.declared.certificate.Step.{Step}
 use Rattle.refutation_check.specs.Follows.{IsRow, IsGiven, clause_of, EndsEmpty, Follows}
 
-row_consequence : (rule : RuleName) (terms : List Term) (root : Option ℕ) (clauses : List (List Literal)) (below : ℕ) (numbers : List _) (clause : List Literal) → IsRow rule terms root clauses below numbers clause → IsConsequence terms root clauses below clause
-row_consequence r.Root = root_sound
-row_consequence r.Conn = connective_sound
-row_consequence r.Chain = chain_sound
-row_consequence r.Refl = refl_sound
-row_consequence r.Sym = sym_sound
-row_consequence r.Trans = trans_sound
-row_consequence r.Cong = λ terms root clauses below numbers clause h. absurd h
-row_consequence r.Linear = λ terms root clauses below numbers clause h. absurd h
-row_consequence r.Cut = λ terms root clauses below numbers clause h. absurd h
-row_consequence r.Split = λ terms root clauses below numbers clause h. absurd h
-row_consequence r.Map = λ terms root clauses below numbers clause h. absurd h
-row_consequence r.Axiom = λ terms root clauses below numbers clause h. absurd h
-row_consequence r.Lemma = λ terms root clauses below numbers clause h. absurd h
+row_consequence : (language : Language) (rule : RuleName) (terms : List Term) (root : Option ℕ) (clauses : List (List Literal)) (below : ℕ) (numbers : List _) (clause : List Literal) → IsRow rule terms root clauses below numbers clause → IsConsequence language terms root clauses below clause
+row_consequence language r.Root = root_sound language
+row_consequence language r.Conn = connective_sound language
+row_consequence language r.Chain = chain_sound language
+row_consequence language r.Refl = refl_sound language
+row_consequence language r.Sym = sym_sound language
+row_consequence language r.Trans = trans_sound language
+row_consequence language r.Cong = λ terms root clauses below numbers clause h. absurd h
+row_consequence language r.Linear = λ terms root clauses below numbers clause h. absurd h
+row_consequence language r.Cut = λ terms root clauses below numbers clause h. absurd h
+row_consequence language r.Split = λ terms root clauses below numbers clause h. absurd h
+row_consequence language r.Map = λ terms root clauses below numbers clause h. absurd h
+row_consequence language r.Axiom = λ terms root clauses below numbers clause h. absurd h
+row_consequence language r.Lemma = λ terms root clauses below numbers clause h. absurd h
 
 -- a place of a list, seen by a function
 pub get_map : {X Y : Type 0} (f : X → Y) (xs : List X) (i : ℕ) (y : Y) → slice_get (map f xs) i ≡ Some y → (x : X) × (slice_get xs i ≡ Some x) × (f x ≡ y)
@@ -35,14 +35,14 @@ get_map f (x ∷ xs) zero y h = (x, refl, cc)
 get_map f (x ∷ xs) (suc i) y h = get_map f xs i y h
 
 -- each clause of a refutation is true where the condition is false
-steps_true : (terms : List Term) (root : ℕ) (steps : List Step) → Follows terms root steps → (e : Env) (v : ℕ → Value) → IsValuation e terms v → truth (v root) ≡ false → (n : ℕ) (i : ℕ) → i < n → (c : List Literal) → slice_get (map clause_of steps) i ≡ Some c → clause_true v c ≡ true
-steps_true terms root steps k e v valued wrong zero i h c g = absurd (omega arith)
-steps_true terms root steps k e v valued wrong (suc n) i h c g =
-    let before : (i : ℕ) → i < n → (c : List Literal) → slice_get (map clause_of steps) i ≡ Some c → clause_true v c ≡ true = steps_true terms root steps k e v valued wrong n in
+steps_true : (language : Language) (terms : List Term) (root : ℕ) (steps : List Step) → Follows terms root steps → (e : Env) (v : ℕ → Value) → IsEnv language.program e → IsValuation language e terms v → truth (v root) ≡ false → (n : ℕ) (i : ℕ) → i < n → (c : List Literal) → slice_get (map clause_of steps) i ≡ Some c → clause_true v c ≡ true
+steps_true language terms root steps k e v env valued wrong zero i h c g = absurd (omega arith)
+steps_true language terms root steps k e v env valued wrong (suc n) i h c g =
+    let before : (i : ℕ) → i < n → (c : List Literal) → slice_get (map clause_of steps) i ≡ Some c → clause_true v c ≡ true = steps_true language terms root steps k e v env valued wrong n in
     below_more (λ i. (c : List Literal) → slice_get (map clause_of steps) i ≡ Some c → clause_true v c ≡ true) n before
     (λ c g.
     let (s, at, same) = get_map clause_of steps n c g in
-    let one = row_consequence s.rule terms (Some root) (map clause_of steps) n s.numbers s.clause (k.given n s at) e v valued
+    let one = row_consequence language s.rule terms (Some root) (map clause_of steps) n s.numbers s.clause (k.given n s at) e v env valued
     (record { root_false = λ r q. (let t : root ≡ r = cc in subst (λ r. truth (v r) ≡ false) t wrong); steps = λ j d l p. before j l d p }) in
     subst (λ (c : List Literal). clause_true v c ≡ true) same one)
     i (omega arith) c g
@@ -51,11 +51,11 @@ bool_of : (b : Bool) → (b ≡ false → ⊥) → b ≡ true
 bool_of true h = refl
 bool_of false h = absurd (h refl)
 
-pub refutes : (terms : List Term) (root : ℕ) (steps : List Step) → Follows terms root steps → IsAlwaysTrue terms root
-refutes terms root steps k e v valued =
+pub refutes : (language : Language) (terms : List Term) (root : ℕ) (steps : List Step) → Follows terms root steps → IsAlwaysTrue language terms root
+refutes language terms root steps k e v env valued =
     bool_of (truth (v root)) (λ wrong.
     let (i, count, last) = k.empty in
-    let h : false ≡ true = steps_true terms root steps k e v valued wrong (i + 1) i (omega arith) [] last in cc)
+    let h : false ≡ true = steps_true language terms root steps k e v env valued wrong (i + 1) i (omega arith) [] last in cc)
 
 get_mapped : {X Y : Type 0} (f : X → Y) (xs : List X) (i : ℕ) (x : X) → slice_get xs i ≡ Some x → slice_get (map f xs) i ≡ Some (f x)
 get_mapped f [] i x h = cc

@@ -1,18 +1,19 @@
 //! The checker of refutations.
 #![tactic(auto)]
 
-ghost use Rattle.std.specs.Prelude.{◌≡◌, ℕ, ◌↔◌, ◌<◌, ◌≤◌, List, length, map, IsTrue, IfOk, Some};
-ghost use Rattle.term_eval.specs.Meaning.{IsAlwaysTrue};
+ghost use Rattle.std.specs.Prelude.{◌≡◌, ℕ, ◌↔◌, ◌<◌, ◌≤◌, List, length, map, IsTrue, IsOk, IfOk, Some};
+ghost use Rattle.term_meaning.specs.Meaning.{Language, IsAlwaysTrue};
 ghost use Rattle.vcc_rules.specs.Law.{IsWithin, AreWithin};
 ghost use Rattle.std.specs.Prelude.{slice_get};
 ghost use Rattle.cert_format.specs.declared.certificate.Step.{Step as AnyStep};
 ghost use Rattle.refutation_check.specs.Follows.{EndsEmpty, Follows, IsGiven, clause_of};
 
 use cert_format::certificate::{Refutation, RuleName, Step};
+use int_ranges::exact::Wide;
+use rule_equality::equivalence::{Reflexivity, Symmetry, Transitivity};
 use std::alloc::{AllocError, Global};
 use term_bank::bank::Bank;
 use terms::term::{Clause, Literal};
-use vcc_rules::equality::{Reflexivity, Symmetry, Transitivity};
 use vcc_rules::propositional::{Chain, Connective, Root};
 use vcc_rules::rule::{Clauses, Rule, Scratch};
 
@@ -25,7 +26,7 @@ pub fn check_one(
     block: &Refutation,
 ) -> Result<bool, AllocError>
     ensures exact { IfOk result (λ yes. IsTrue yes ↔ Follows terms.now.terms root block.now.steps) }
-    ensures always { IfOk result (λ yes. IsTrue yes → IsAlwaysTrue terms.now.terms root) }
+    ensures always { IfOk result (λ yes. IsTrue yes → (language : Language) → IsAlwaysTrue language terms.now.terms root) }
 {
     let steps = block.steps();
     let clauses = clauses_of(alloc, root, steps)?;
@@ -103,12 +104,18 @@ fn is_given(
     let clause = step.clause.literals();
     let numbers = &step.numbers;
     match step.rule {
-        RuleName::Root => Root.concludes(terms, clauses, below, numbers, clause, scratch),
-        RuleName::Conn => Connective.concludes(terms, clauses, below, numbers, clause, scratch),
-        RuleName::Chain => Chain.concludes(terms, clauses, below, numbers, clause, scratch),
-        RuleName::Refl => Reflexivity.concludes(terms, clauses, below, numbers, clause, scratch),
-        RuleName::Sym => Symmetry.concludes(terms, clauses, below, numbers, clause, scratch),
-        RuleName::Trans => Transitivity.concludes(terms, clauses, below, numbers, clause, scratch),
+        RuleName::Root => exact(Root.concludes(terms, clauses, below, numbers, clause, scratch)),
+        RuleName::Conn => {
+            exact(Connective.concludes(terms, clauses, below, numbers, clause, scratch))
+        }
+        RuleName::Chain => exact(Chain.concludes(terms, clauses, below, numbers, clause, scratch)),
+        RuleName::Refl => {
+            exact(Reflexivity.concludes(terms, clauses, below, numbers, clause, scratch))
+        }
+        RuleName::Sym => exact(Symmetry.concludes(terms, clauses, below, numbers, clause, scratch)),
+        RuleName::Trans => {
+            exact(Transitivity.concludes(terms, clauses, below, numbers, clause, scratch))
+        }
         RuleName::Cong
         | RuleName::Linear
         | RuleName::Cut
@@ -116,6 +123,17 @@ fn is_given(
         | RuleName::Map
         | RuleName::Axiom
         | RuleName::Lemma => false,
+    }
+}
+
+/// The answer of a rule that works out no numbers.
+fn exact(answer: Result<bool, Wide>) -> bool
+    requires { IsOk answer }
+    ensures { IfOk answer (λ yes. result ≡ yes) }
+{
+    match answer {
+        Ok(yes) => yes,
+        Err(_) => false,
     }
 }
 

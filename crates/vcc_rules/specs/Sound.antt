@@ -1,16 +1,20 @@
-use Rattle.std.proofs.Common.{◌≡◌, ℕ, zero, suc, ◌<◌, ◌-◌, ℤ, ◌⊎◌, inl, inr, List, [], ◌∷◌, map, Some, Option, slice_get, Bool, true, false, not, ◌&&◌, ◌||◌, cond, refl, ap, sym, ◌∙◌, subst}
+-- The rows of `root`, `conn` and `chain` give consequences.
+use Rattle.std.proofs.Common.{◌≡◌, ℕ, zero, suc, ◌<◌, ◌-◌, ℤ, ◌⊎◌, inl, inr, List, [], ◌∷◌, map, Some, Option, None, slice_get, Bool, true, false, not, ◌&&◌, ◌||◌, cond, refl, ap, sym, ◌∙◌, subst}
 use Rattle.std.proofs.Common.{nat_eq}
 use Rattle.std.proofs.lemmas.Bool.{eqb-true}
 use Rattle.terms.specs.declared.term.Term.{Term}
 use Rattle.terms.specs.declared.term.Literal.{Literal}
 use Rattle.terms.specs.declared.term.Kind.{Kind}
-use Rattle.terms.specs.declared.term.Kind.TheVariants.{True, Not, And, Or, Imp}
-use Rattle.term_eval.specs.Meaning.{Env, Value, truth, Means, clause_true, literal_true}
+use Rattle.terms.specs.declared.term.Kind.TheVariants.{True, Not, And, Or, Imp, Ite}
+use Rattle.std.specs.Option.{option_and_then}
+use Rattle.std.specs.Prelude.{if◌then◌else◌}
+use Rattle.term_meaning.specs.Meaning.{Language, Env, Value, truth, Means, IsValuation, clause_true, literal_true}
 use Rattle.vcc_rules.specs.Law.{IsConsequence}
-use Rattle.vcc_rules.specs.Rows.{IsRoot, connective_clauses, IsConnective, same_literal, same_sign, is_known, negated, open_of, Closes}
+use Rattle.vcc_rules.specs.EqualitySound.{says}
+use Rattle.vcc_rules.specs.Rows.{IsRoot, connective_clauses, IsClausal, choice_of, IsChosen, IsConnective, same_literal, same_sign, is_known, negated, open_of, Closes}
 
-pub root_sound : (terms : List Term) (root : Option ℕ) (clauses : List (List Literal)) (below : ℕ) (numbers : List ℤ) (clause : List Literal) → IsRoot root numbers clause → IsConsequence terms root clauses below clause
-root_sound terms root clauses below numbers clause h e v valued hold =
+pub root_sound : (language : Language) (terms : List Term) (root : Option ℕ) (clauses : List (List Literal)) (below : ℕ) (numbers : List ℤ) (clause : List Literal) → IsRoot root numbers clause → IsConsequence language terms root clauses below clause
+root_sound language terms root clauses below numbers clause h e v env valued hold =
     let f : truth (v h.0) ≡ false = hold.root_false h.0 h.1 in
     rw (h.3, f) refl
 
@@ -46,17 +50,61 @@ imp_rows false true = (refl, (refl, (refl, tt)))
 imp_rows false false = (refl, (refl, (refl, tt)))
 
 -- each clause of a node is true at each valuation
-connectives_true : (e : Env) (v : ℕ → Value) (k : Kind) (n : ℤ) (t : ℕ) (args : List ℕ) → Means e k n (map v args) (v t) → AllTrue v (connective_clauses k t args)
-connectives_true e v True n t [] m = (rw (ap truth m) refl, tt)
-connectives_true e v Not n t (a ∷ []) m = rw (ap truth m) (not_rows (truth (v a)))
-connectives_true e v And n t (a ∷ b ∷ []) m = rw (ap truth m) (and_rows (truth (v a)) (truth (v b)))
-connectives_true e v Or n t (a ∷ b ∷ []) m = rw (ap truth m) (or_rows (truth (v a)) (truth (v b)))
-connectives_true e v Imp n t (a ∷ b ∷ []) m = rw (ap truth m) (imp_rows (truth (v a)) (truth (v b)))
-connectives_true e v _ n t _ m = tt
+connectives_true : (language : Language) (e : Env) (v : ℕ → Value) (k : Kind) (n : ℤ) (t : ℕ) (args : List ℕ) → Means language e k n (map v args) (v t) → AllTrue v (connective_clauses k t args)
+connectives_true language e v True n t [] m = (rw (ap truth m) refl, tt)
+connectives_true language e v Not n t (a ∷ []) m = rw (ap truth m) (not_rows (truth (v a)))
+connectives_true language e v And n t (a ∷ b ∷ []) m = rw (ap truth m) (and_rows (truth (v a)) (truth (v b)))
+connectives_true language e v Or n t (a ∷ b ∷ []) m = rw (ap truth m) (or_rows (truth (v a)) (truth (v b)))
+connectives_true language e v Imp n t (a ∷ b ∷ []) m = rw (ap truth m) (imp_rows (truth (v a)) (truth (v b)))
+connectives_true language e v _ n t _ m = tt
 
-pub connective_sound : (terms : List Term) (root : Option ℕ) (clauses : List (List Literal)) (below : ℕ) (numbers : List ℤ) (clause : List Literal) → IsConnective terms numbers clause → IsConsequence terms root clauses below clause
-connective_sound terms root clauses below numbers clause (part, t, node, m, g, p) e v valued hold =
-    pick v (connective_clauses node.kind t node.args) (part - 1) clause (connectives_true e v node.kind node.index t node.args (valued.at t node g)) p.1
+clausal_sound : (language : Language) (terms : List Term) (root : Option ℕ) (clauses : List (List Literal)) (below : ℕ) (numbers : List ℤ) (clause : List Literal) → IsClausal terms numbers clause → IsConsequence language terms root clauses below clause
+clausal_sound language terms root clauses below numbers clause (part, t, node, m, g, p) e v env valued hold =
+    pick v (connective_clauses node.kind t node.args) (part - 1) clause (connectives_true language e v node.kind node.index t node.args (valued.term t node g)) p.1
+
+-- a choice is one of its branches, by its test
+record Chooses (v : ℕ → Value) (t b x y : ℕ) : Type 0 where
+  is : v t ≡ if truth (v b) then v x else v y
+
+choice_means : (language : Language) (e : Env) (k : Kind) (i : ℤ) (args : List ℕ) (v : ℕ → Value) (t b x y : ℕ) → choice_of k args ≡ Some (b, x, y) → Means language e k i (map v args) (v t) → Chooses v t b x y
+choice_means language e Ite i (c ∷ d ∷ f ∷ []) v t b x y h m =
+    let w : (c, d, f) ≡ (b, x, y) = cc in
+    let p : c ≡ b = ap (λ (p : ℕ × ℕ × ℕ). p.0) w in
+    let q : d ≡ x = ap (λ (p : ℕ × ℕ × ℕ). p.1) w in
+    let r : f ≡ y = ap (λ (p : ℕ × ℕ × ℕ). p.2) w in
+    record { is = m ∙ (λ j. if truth (v (p j)) then v (q j) else v (r j)) }
+choice_means language e Ite i [] v t b x y h m = cc
+choice_means language e Ite i (c ∷ []) v t b x y h m = cc
+choice_means language e Ite i (c ∷ d ∷ []) v t b x y h m = cc
+choice_means language e Ite i (c ∷ d ∷ f ∷ g ∷ args) v t b x y h m = cc
+choice_means language e _ i args v t b x y h m = cc
+
+chooses_at : (language : Language) (e : Env) (v : ℕ → Value) (terms : List Term) (t b x y : ℕ) → IsValuation language e terms v → (o : Option Term) → slice_get terms t ≡ o → option_and_then (λ (n : Term). choice_of n.kind n.args) o ≡ Some (b, x, y) → Chooses v t b x y
+chooses_at language e v terms t b x y valued None g h = cc
+chooses_at language e v terms t b x y valued (Some n) g h = choice_means language e n.kind n.index n.args v t b x y h (valued.term t n g)
+
+first_chosen : (c u : Bool) (t x y : Value) → t ≡ (if c then x else y) → (t ≡ x → u ≡ true) → not c || (u || false) ≡ true
+first_chosen true u t x y h f = rw (f h) refl
+first_chosen false u t x y h f = refl
+
+second_chosen : (c u : Bool) (t x y : Value) → t ≡ (if c then x else y) → (t ≡ y → u ≡ true) → c || (u || false) ≡ true
+second_chosen true u t x y h f = refl
+second_chosen false u t x y h f = rw (f h) refl
+
+chosen_sound : (language : Language) (terms : List Term) (root : Option ℕ) (clauses : List (List Literal)) (below : ℕ) (numbers : List ℤ) (clause : List Literal) → IsChosen terms numbers clause → IsConsequence language terms root clauses below clause
+chosen_sound language terms root clauses below numbers clause (part, t, u, b, x, y, m, p, row) e v env valued hold =
+    let c = chooses_at language e v terms t b x y valued (slice_get terms t) refl p in
+    elim row [
+      | inl (one, s, f) ↦ rw f (first_chosen (truth (v b)) (truth (v u)) (v t) (v x) (v y) c.is (says language e v terms u t x valued s).holds)
+      | inr (two, s, f) ↦ rw f (second_chosen (truth (v b)) (truth (v u)) (v t) (v x) (v y) c.is (says language e v terms u t y valued s).holds)
+    ]
+
+pub connective_sound : (language : Language) (terms : List Term) (root : Option ℕ) (clauses : List (List Literal)) (below : ℕ) (numbers : List ℤ) (clause : List Literal) → IsConnective terms numbers clause → IsConsequence language terms root clauses below clause
+connective_sound language terms root clauses below numbers clause row =
+    elim row [
+      | inl r ↦ clausal_sound language terms root clauses below numbers clause r
+      | inr r ↦ chosen_sound language terms root clauses below numbers clause r
+    ]
 
 one_of_two : (p x k : Bool) → cond p x (not x) || false ≡ true → cond (not p) x (not x) || k ≡ true → k ≡ true
 one_of_two true true k a b = b
@@ -131,5 +179,5 @@ closes_true v earlier below hold known (s ∷ ss) (k, c, m, b, g, f) =
       ]
     ]
 
-pub chain_sound : (terms : List Term) (root : Option ℕ) (clauses : List (List Literal)) (below : ℕ) (steps : List ℤ) (clause : List Literal) → Closes clauses below clause steps → IsConsequence terms root clauses below clause
-chain_sound terms root clauses below steps clause k e v valued hold = closes_true v clauses below hold.steps clause steps k
+pub chain_sound : (language : Language) (terms : List Term) (root : Option ℕ) (clauses : List (List Literal)) (below : ℕ) (steps : List ℤ) (clause : List Literal) → Closes clauses below clause steps → IsConsequence language terms root clauses below clause
+chain_sound language terms root clauses below steps clause k e v env valued hold = closes_true v clauses below hold.steps clause steps k

@@ -1,10 +1,13 @@
 //! The rules of propositional logic: `root`, `conn` and `chain`.
 
-ghost use Rattle.std.specs.Prelude.{◌≡◌, ◌↔◌, IsTrue, ◌∷◌, []};
-ghost use Rattle.vcc_rules.specs.Rows.{IsRoot, IsPart, IsConnective, Closes, yes as positive, no as negative};
+ghost use Rattle.std.specs.Prelude.{◌≡◌, ◌↔◌, IsTrue, ◌∷◌, [], MatchOption};
+ghost use Rattle.vcc_rules.specs.Rows.{IsRoot, IsPart, IsClausal, IsNoChoice, IsChoice, IsChosen, IsConnective, Closes, yes as positive, no as negative};
+ghost use Rattle.vcc_rules.specs.Branches.{IsBranch};
 ghost use Rattle.vcc_rules.specs.Sound.{root_sound, connective_sound, chain_sound};
 
+use crate::equality::{Equality, equality_at};
 use crate::rule::{Clauses, Rule, Scratch};
+use int_ranges::exact::Wide;
 use term_bank::bank::Bank;
 use terms::numbers::{Numbers, index_below};
 use terms::term::{Kind, Literal, Term};
@@ -15,7 +18,11 @@ pub struct Root;
 impl Rule for Root {
     type Data = Numbers;
 
+    ghost suits = { λ rule language terms. Unit {0} };
+
     ghost gives = { λ rule terms earlier below detail clause. IsRoot earlier.root detail clause };
+
+    ghost leaves = { λ rule terms detail clause w. ⊥ };
 
     fn concludes(
         &self,
@@ -25,23 +32,28 @@ impl Rule for Root {
         detail: &Numbers,
         clause: &[Literal],
         _scratch: &mut Scratch,
-    ) -> bool {
-        match (earlier.root, detail.as_slice(), clause) {
+    ) -> Result<bool, Wide> {
+        Ok(match (earlier.root, detail.as_slice(), clause) {
             (Some(root), [], [only]) => only.term == root && !only.positive,
             _ => false,
-        }
+        })
     }
 
-    ghost sound = { λ rule terms earlier below detail clause. root_sound terms earlier.root earlier.list.items below detail clause };
+    ghost sound = { λ rule language terms earlier below detail clause suits. root_sound language terms earlier.root earlier.list.items below detail clause };
 }
 
-/// What a term says of its arguments: the part's number, from 1, and the term's.
+/// What a term says of its arguments: the part's number, from 1, and the term's; of a choice also the number of the
+/// equality of the term and its branch.
 pub struct Connective;
 
 impl Rule for Connective {
     type Data = Numbers;
 
+    ghost suits = { λ rule language terms. Unit {0} };
+
     ghost gives = { λ rule terms earlier below detail clause. IsConnective terms detail clause };
+
+    ghost leaves = { λ rule terms detail clause w. ⊥ };
 
     fn concludes(
         &self,
@@ -51,19 +63,20 @@ impl Rule for Connective {
         detail: &Numbers,
         clause: &[Literal],
         _scratch: &mut Scratch,
-    ) -> bool {
-        match detail.as_slice() {
-            [part, term] => is_connective(terms, *part, *term, clause),
+    ) -> Result<bool, Wide> {
+        Ok(match detail.as_slice() {
+            [part, term] => is_clausal(terms, *part, *term, clause),
+            [part, term, equation] => is_chosen(terms, *part, *term, *equation, clause),
             _ => false,
-        }
+        })
     }
 
-    ghost sound = { λ rule terms earlier below detail clause. connective_sound terms earlier.root earlier.list.items below detail clause };
+    ghost sound = { λ rule language terms earlier below detail clause suits. connective_sound language terms earlier.root earlier.list.items below detail clause };
 }
 
 #[tactic(auto, using(crate::proofs::Parts::part_below))]
-fn is_connective(terms: &Bank, part: i128, term: i128, clause: &[Literal]) -> bool
-    ensures row { IsTrue result ↔ IsConnective terms.now.terms (part ∷ term ∷ []) clause.now }
+fn is_clausal(terms: &Bank, part: i128, term: i128, clause: &[Literal]) -> bool
+    ensures row { IsTrue result ↔ IsClausal terms.now.terms (part ∷ term ∷ []) clause.now }
 {
     match (index_below(part, 4), index_below(term, terms.len())) {
         (Some(part), Some(t)) => is_part(terms.node(t as u32), t as u32, part, clause),
@@ -91,6 +104,57 @@ fn is_part(node: &Term, t: u32, part: usize, clause: &[Literal]) -> bool
     }
 }
 
+/// A term that is a choice, with its test and its branches.
+#[derive(Clone, Copy, Debug)]
+pub struct Choice {
+    pub term: u32,
+    pub test: u32,
+    pub first: u32,
+    pub second: u32,
+}
+
+/// The choice that a step's number names.
+fn choice_at(terms: &Bank, number: i128) -> Option<Choice>
+    ensures { MatchOption result (IsNoChoice terms.now.terms number) (IsChoice terms.now.terms number) }
+{
+    let term = index_below(number, terms.len())? as u32;
+    let node = terms.node(term);
+    match (node.kind, node.args.numbers()) {
+        (Kind::Ite, [test, first, second]) => Some(Choice {
+            term,
+            test: *test,
+            first: *first,
+            second: *second,
+        }),
+        _ => None,
+    }
+}
+
+#[tactic(auto, using(crate::proofs::Choices::branch_chosen, crate::proofs::Choices::chosen_branch))]
+fn is_chosen(terms: &Bank, part: i128, term: i128, equation: i128, clause: &[Literal]) -> bool
+    ensures row { IsTrue result ↔ IsChosen terms.now.terms (part ∷ term ∷ equation ∷ []) clause.now }
+{
+    match (choice_at(terms, term), equality_at(terms, equation)) {
+        (Some(c), Some(e)) => is_branch(part, c, e, clause),
+        _ => false,
+    }
+}
+
+/// Whether the equality is that of a choice and the branch with this number, and the clause says when it holds.
+fn is_branch(part: i128, c: Choice, e: Equality, clause: &[Literal]) -> bool
+    ensures { IsTrue result ↔ IsBranch part c e clause.now }
+{
+    if e.left != c.term {
+        return false;
+    }
+    match part {
+        1 => e.right == c.first && is_pair(clause, no(c.test), yes(e.term)),
+        2 => e.right == c.second && is_pair(clause, yes(c.test), yes(e.term)),
+        _ => false,
+    }
+}
+
+/// The literal that the term is true.
 pub fn yes(term: u32) -> Literal
     ensures { result ≡ positive term }
 {
@@ -100,6 +164,7 @@ pub fn yes(term: u32) -> Literal
     }
 }
 
+/// The literal that the term is false.
 pub fn no(term: u32) -> Literal
     ensures { result ≡ negative term }
 {
@@ -109,18 +174,21 @@ pub fn no(term: u32) -> Literal
     }
 }
 
+/// Whether this is the only literal.
 pub fn is_one(clause: &[Literal], a: Literal) -> bool
     ensures { IsTrue result ↔ (clause.now ≡ a ∷ []) }
 {
     matches!(clause, [x] if *x == a)
 }
 
+/// Whether these are the literals, in this order.
 pub fn is_pair(clause: &[Literal], a: Literal, b: Literal) -> bool
     ensures { IsTrue result ↔ (clause.now ≡ a ∷ b ∷ []) }
 {
     matches!(clause, [x, y] if *x == a && *y == b)
 }
 
+/// Whether these are the literals, in this order.
 pub fn is_triple(clause: &[Literal], a: Literal, b: Literal, c: Literal) -> bool
     ensures { IsTrue result ↔ (clause.now ≡ a ∷ b ∷ c ∷ []) }
 {
@@ -133,7 +201,11 @@ pub struct Chain;
 impl Rule for Chain {
     type Data = Numbers;
 
+    ghost suits = { λ rule language terms. Unit {0} };
+
     ghost gives = { λ rule terms earlier below detail clause. Closes earlier.list.items below clause detail };
+
+    ghost leaves = { λ rule terms detail clause w. ⊥ };
 
     fn concludes(
         &self,
@@ -143,9 +215,9 @@ impl Rule for Chain {
         detail: &Numbers,
         clause: &[Literal],
         scratch: &mut Scratch,
-    ) -> bool {
-        scratch.closes(earlier.list.as_slice(), below, detail.as_slice(), clause)
+    ) -> Result<bool, Wide> {
+        Ok(scratch.closes(earlier.list.as_slice(), below, detail.as_slice(), clause))
     }
 
-    ghost sound = { λ rule terms earlier below detail clause. chain_sound terms earlier.root earlier.list.items below detail clause };
+    ghost sound = { λ rule language terms earlier below detail clause suits. chain_sound language terms earlier.root earlier.list.items below detail clause };
 }

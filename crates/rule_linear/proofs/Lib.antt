@@ -1,0 +1,11 @@
+pub mod Readings
+pub mod Wraps
+pub mod Totals
+pub mod InOrder
+pub mod Known
+pub mod Adding
+pub mod Agreeing
+pub mod Jobs
+pub mod Rows
+pub mod Places
+pub mod Cutting

@@ -1,0 +1,6 @@
+use Rattle.std.proofs.lemmas.Int.{wrapping_mul_is}
+use Rattle.std.specs.Int.{w128}
+use Rattle.rule_linear.proofs.form.wrapped_product.Goals as goal
+
+pub returns : goal.returns
+returns c = wrapping_mul_is w128 c.args.x c.args.y c.ranges.x c.ranges.y

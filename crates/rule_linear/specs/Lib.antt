@@ -1,0 +1,14 @@
+pub mod Forms
+pub mod Below
+pub mod Bounds
+pub mod Sides
+pub mod Walks
+pub mod Rows
+pub mod Tests
+pub mod Values
+pub mod Sound
+pub mod Comparisons
+pub mod SplitSound
+pub mod Cuts
+pub mod CutTests
+pub mod CutSound

@@ -1,0 +1,10 @@
+//! The rules of linear integer arithmetic: `linear`, `cut` and `split`.
+#![tactic(auto)]
+
+pub mod agreement;
+pub mod bound;
+pub mod cut;
+pub mod form;
+pub mod linear;
+pub mod split;
+pub mod steps;

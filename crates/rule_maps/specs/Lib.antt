@@ -1,0 +1,4 @@
+pub mod Rows
+pub mod Readings
+pub mod Places
+pub mod Sound
