@@ -1,0 +1,4 @@
+pub mod Scenes
+pub mod Done
+pub mod Mapped
+pub mod Rows

@@ -1,0 +1,5 @@
+use Rattle.condition_formulas.proofs.Symbolics.{is_truth, symbolic_later}
+use Rattle.condition_annotations.proofs.words.is_member.Goals as goal
+
+pub returns-clause-stands : goal.returns-clause-stands
+returns-clause-stands c = λ s v w h0 h1 h2. is_truth (c.in_ok-id.ensures.stands _ _ _ (c.in_ok-object.ensures.later _ _ (c.in_ok-member.ensures.later _ _ (c.heap-heap.ensures _ _ h0))) (c.in_ok-object.ensures.stands _ (symbolic_later c.in_ok-member.ensures.later h2)) (c.in_ok-object.ensures.later _ _ (c.in_ok-member.ensures.stands _ h1)))

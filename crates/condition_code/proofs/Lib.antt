@@ -1,0 +1,5 @@
+pub mod Steps
+pub mod Walks
+pub mod States
+pub mod Emitters
+pub mod Codes

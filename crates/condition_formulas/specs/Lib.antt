@@ -1,0 +1,3 @@
+pub mod Standing
+pub mod Symbolics
+pub mod Walks
