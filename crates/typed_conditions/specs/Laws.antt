@@ -1,18 +1,15 @@
 -- What valid conditions say of a source. From CAV 2010: a program that is verified function by function and type by type is
 -- safe. Own: the source is text, and the program is what the typing rules make of it.
-use Rattle.std.specs.Prelude.{◌≡◌, ℕ, List, Some, slice_get, IsTrue}
+use Rattle.std.specs.Prelude.{◌≡◌, List, IsTrue}
 use Rattle.c_syntax.specs.declared.token.Span.{Span}
 use Rattle.c_syntax.specs.Items.{Item}
 use Rattle.typing_spec.specs.First.{IsWellTyped}
 use Rattle.method.specs.declared.program.Program.{Program}
-use Rattle.method.specs.declared.program.StructInfo.{StructInfo}
 use Rattle.method.specs.Machine.{Safe}
 use Rattle.typed_program.specs.Tables as tables
 use Rattle.typed_program.specs.Views as seen
 use Rattle.tree_forms.specs.InForm.{in_form}
-use Rattle.conditions.specs.Quantified.{specs_quantifiers, program_quantifiers, struct_words}
 use Rattle.condition_walks.specs.Conversions.{ConversionsAreReceived}
-use Rattle.condition_meaning.specs.Annotated.{Each, IsListed}
 use Rattle.condition_meaning.specs.Promises.{ConditionsAreValid}
 
 -- In the typed program of a source that breaks no typing rule no value is converted that nobody receives.
@@ -21,16 +18,9 @@ ConversionsLaw =
     (items : List Item) (end : Span) → IsWellTyped items end
     → (p : Program) → seen.program p ≡ tables.program items → ConversionsAreReceived p
 
--- What is not yet shown of typed sources, and so stands as a premise: each quantified formula of the program is the one with
--- its number, and so is each in what names the members of a fixed owned set. No source is known that breaks it.
-pub record Numbered (p : Program) : Type 0 where
-  pub numbered : Each p (IsListed p) (program_quantifiers p)
-  pub members_numbered :
-      (n : ℕ) (s : StructInfo) → slice_get p.structs.items n ≡ Some s → Each p (IsListed p) (specs_quantifiers p s.mine.items struct_words)
-
 -- A source is safe in every interleaving where all its conditions are true in every environment.
 abbrev pub SourcesAreSafe : Type 0
 SourcesAreSafe =
     (items : List Item) (end : Span) → IsTrue (in_form items) → IsWellTyped items end
     → (p : Program) → seen.program p ≡ tables.program items
-    → Numbered p → ConditionsAreValid p → Safe p
+    → ConditionsAreValid p → Safe p
