@@ -1,7 +1,6 @@
-pub mod Fits
 pub mod Fronts
-pub mod Full
 pub mod Laid
+pub mod Results
 pub mod Seen
 pub mod Steps
 pub mod Walks

@@ -1,4 +1,4 @@
--- What is laid out in a bank for a formula of a graph. From first-order logic: substitution, with numbers of terms for the constants.
+-- What is laid out in another graph for a formula of a graph. From first-order logic: substitution, with numbers of terms for the constants.
 use Rattle.std.specs.Prelude.{◌≡◌, ℕ, ℤ, pos, negsuc, Bool, true, false, List, [], ◌∷◌, Option, None, Some, slice_get, if◌then◌else◌}
 use Rattle.terms.specs.declared.term.Term.{Term}
 use Rattle.terms.specs.declared.term.Kind.{Kind}

@@ -1,4 +1,4 @@
--- Numbers that nodes of a graph have in a bank. Own.
+-- Numbers that nodes of a graph have in another one. Own.
 use Rattle.std.specs.Prelude.{ℕ, List, Option, None, Some, get_or, sum_by, if◌then◌else◌, ◌==◌}
 use Rattle.graph_numbering.specs.declared.places.Place.{Place}
 

@@ -1,11 +1,7 @@
 -- A walk as the contracts of its steps see it. Own.
-use Rattle.std.specs.Prelude.{◌≡◌, ℕ, ◌-◌, ◌<◌, List, [], ◌∷◌, ◌++◌, length, take, drop, reverse, Option, option_map, Result, Err, OnOk, IfOk, Contains}
+use Rattle.std.specs.Prelude.{◌≡◌, ℕ, ◌-◌, List, [], ◌∷◌, ◌++◌, length, take, drop, reverse, Option, option_map, Result, OnOk, IfOk}
 use Rattle.terms.specs.declared.term.Term.{Term}
 use Rattle.terms.specs.Formula.{Formula, Stands, term}
-use Rattle.term_bank.specs.Bank.{HeldTerms}
-use Rattle.term_bank.specs.declared.bank.BankFault.{BankFault}
-use Rattle.term_bank.specs.declared.bank.BankFault.TheVariants.{BankFull}
-use Rattle.term_graph.specs.Graph.{IsGraph}
 use Rattle.graph_numbering.specs.declared.walk.Visit.{Visit}
 use Rattle.graph_numbering.specs.declared.walk.Source.{Source}
 use Rattle.graph_numbering.specs.declared.walk.Stacks.{Stacks}
@@ -40,15 +36,6 @@ Pushes old new numbers = new.numbers.items ≡ old.numbers.items ++ numbers
 abbrev pub Descends : Stacks → Stacks → Visit → ℕ → Type 0
 Descends old new waiting argument = new.visits.items ≡ (old.visits.items ++ waiting ∷ []) ++ first_visit argument ∷ []
 
--- the term is new, and the bank holds as many as it may
-abbrev pub HasNoRoom : List Term → Term → Type 0
-HasNoRoom terms t = (Contains terms t → ⊥) × (length terms ≡ 1_048_576)
-
--- however the root's formula is laid out, it takes more terms than a bank may hold
-abbrev pub IsTooMuch : Source → List Term → ℕ → Type 0
-IsTooMuch source old root =
-    (f : Formula) (new : List Term) (id : ℕ) → Stands source.graph.now root f → Lays (args_of source) f old new id → IsGraph new → 1_048_576 < length new
-
 -- the visit is the innermost of a walk that began with these terms at this root
 abbrev pub Goes : Source → List Term → ℕ → List (Option ℕ) → List Term → Visit → Stacks → Type 0
 Goes source old root places now visit stacks =
@@ -59,15 +46,10 @@ abbrev pub CanStep : Source → Visit → Stacks → List (Option ℕ) → List 
 CanStep source visit stacks places now = (old : List Term) × (root : ℕ) × Goes source old root places now visit stacks
 
 -- every such walk has made a step
-abbrev pub Steps : {E : Type 0} → Source → Visit → Stacks → Stacks → List (Option ℕ) → List (Option ℕ) → HeldTerms → HeldTerms → Result (Unit {0}) E → Type 0
+abbrev pub Steps : {E : Type 0} → Source → Visit → Stacks → Stacks → List (Option ℕ) → List (Option ℕ) → List Term → List Term → Result (Unit {0}) E → Type 0
 Steps source visit stacks more places after now new result =
-    (old : List Term) (root : ℕ) → Goes source old root places now.terms visit stacks
-    → OnOk result (Step source.graph.now (args_of source) old root places after (reverse stacks.visits.items) (reverse more.visits.items) new.terms more.numbers.items)
-
--- the bank is full only where every such walk takes more terms than it may hold
-abbrev pub FillsUp : Source → Visit → Stacks → List (Option ℕ) → List Term → Result (Unit {0}) BankFault → Type 0
-FillsUp source visit stacks places now result =
-    (old : List Term) (root : ℕ) → Goes source old root places now visit stacks → result ≡ Err BankFull → IsTooMuch source old root
+    (old : List Term) (root : ℕ) → Goes source old root places now visit stacks
+    → OnOk result (Step source.graph.now (args_of source) old root places after (reverse stacks.visits.items) (reverse more.visits.items) new more.numbers.items)
 
 -- the root's formula is laid out
 abbrev pub LaysRoot : Source → ℕ → List Term → List Term → ℕ → Type 0

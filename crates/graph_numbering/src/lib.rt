@@ -1,4 +1,4 @@
-//! Formulas of a graph laid out in a bank.
+//! Formulas of a graph laid out in another one.
 #![tactic(auto)]
 
 mod layout;

@@ -1,56 +1,54 @@
-//! The numbering of a formula of a graph in a bank.
+//! The numbering of a formula of a graph in another one.
 
-ghost use Rattle.std.specs.Prelude.{◌≡◌, ◌<◌, ℕ, All, OnErr};
-ghost use Rattle.terms.specs.Formula.{Formula, Stands};
-ghost use Rattle.graph_numbering.specs.Numbering.{Fits, NumbersNode, FillsNode, FillingFits};
+ghost use Rattle.std.specs.Prelude.{◌≡◌, ℕ, ◌<◌, All, OnErr};
+ghost use Rattle.term_graph.specs.Graph.{Later};
+ghost use Rattle.graph_numbering.specs.Numbering.{NumbersNode, StandsBehind, FillsNode, FillingStands};
 
 use crate::places::Places;
 use crate::walk::Source;
-use term_bank::bank::{Bank, BankFault};
+use std::alloc::AllocError;
 use term_graph::graph::Graph;
 
-/// The number in the bank of the formula that a node of the graph stands for: its terms are put behind those there,
+/// The number in the target of the formula that a node of the graph stands for: its terms are put behind those there,
 /// children before parents, left to right, equal ones once. Each node is visited once, whatever the size of its tree. A
 /// number that is no node's has the number of NULL.
+#[tactic(auto, using(crate::proofs::Results::grown_later))]
 pub fn number(
     graph: &Graph,
     root: u32,
-    bank: &mut Bank,
+    target: &mut Graph,
     places: &mut Places,
-) -> Result<u32, BankFault>
-    ensures numbered { NumbersNode graph.now root bank.old.terms bank.new.terms result }
-    ensures full { (f : Formula) → Stands graph.now root f → Fits f bank.old.terms result }
-    ensures err { OnErr result (bank.new.terms ≡ bank.old.terms) }
+) -> Result<u32, AllocError>
+    ensures numbered { NumbersNode graph.now root target.old target.new result }
+    ensures stands { StandsBehind graph.now root target.new result }
+    ensures later { Later target.old target.new }
+    ensures err { OnErr result (target.new ≡ target.old) }
 {
-    bank.known();
     let source = Source { graph, args: None };
-    let id = source.put(root, bank, places);
-    bank.known();
-    id
+    source.put(root, target, places)
 }
 
-/// The same with the terms of these numbers in the bank in place of the formula's constants, by the constants' indices.
-/// A constant without an argument becomes NULL.
+/// The same with the terms of these numbers in the target in place of the formula's constants, by the constants'
+/// indices. A constant without an argument becomes NULL.
+#[tactic(auto, using(crate::proofs::Results::grown_later))]
 pub fn fill(
     graph: &Graph,
     root: u32,
     args: &[u32],
-    bank: &mut Bank,
+    target: &mut Graph,
     places: &mut Places,
-) -> Result<u32, BankFault>
-    ensures filled { FillsNode graph.now root args.now bank.old.terms bank.new.terms result }
-    ensures full { FillingFits graph.now root args.now bank.old.terms result }
-    ensures err { OnErr result (bank.new.terms ≡ bank.old.terms) }
+) -> Result<u32, AllocError>
+    ensures filled { FillsNode graph.now root args.now target.old target.new result }
+    ensures stands { FillingStands graph.now root args.now target.old target.new result }
+    ensures later { Later target.old target.new }
+    ensures err { OnErr result (target.new ≡ target.old) }
 {
-    bank.known();
-    let terms = known_front(args, bank.len());
+    let terms = known_front(args, target.len());
     let source = Source {
         graph,
         args: Some(terms),
     };
-    let id = source.put(root, bank, places);
-    bank.known();
-    id
+    source.put(root, target, places)
 }
 
 /// The arguments before the first that is no term's number.

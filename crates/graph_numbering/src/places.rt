@@ -13,7 +13,7 @@ struct Place {
     number: u32,
 }
 
-/// Room for the walk: for each node of a graph its number in the bank, once it has one. A new walk forgets all
+/// Room for the walk: for each node of a graph its number in the target, once it has one. A new walk forgets all
 /// numbers by its own number, not by a pass over all.
 #[derive(Debug, Drop)]
 pub struct Places {

@@ -1,17 +1,16 @@
 //! The walk that lays out a formula of a graph.
 
-ghost use Rattle.std.specs.Prelude.{◌≡◌, ℕ, ◌<◌, ◌≤◌, ◌+◌, ◌++◌, ◌∷◌, [], length, slice_set, pos, All, OnOk, OnErr, IfOk, Some, Err};
+ghost use Rattle.std.specs.Prelude.{◌≡◌, ℕ, ◌<◌, ◌≤◌, ◌+◌, ◌++◌, ◌∷◌, [], length, slice_set, pos, All, OnOk, OnErr, IfOk, Some};
 ghost use Rattle.terms.specs.declared.term.Kind.TheVariants.{Null};
 ghost use Rattle.terms.specs.Formula.{Interns, term};
 ghost use Rattle.graph_numbering.specs.Walk.{AreTerms, Grown};
-ghost use Rattle.graph_numbering.specs.Stacks.{args_of, first_visit, front_from, last_term, first_numbers, HasNoRoom, Pushes, Descends, IsTooMuch, CanStep, Steps, FillsUp, LaysRoot, LaysOut};
+ghost use Rattle.graph_numbering.specs.Stacks.{args_of, first_visit, front_from, last_term, first_numbers, Pushes, Descends, CanStep, Steps, LaysRoot, LaysOut};
 
 use crate::layout::{Layout, layout_of};
 use crate::places::Places;
 use std::alloc::{AllocError, Global};
-use term_bank::bank::{Bank, BankFault};
 use term_graph::graph::Graph;
-use terms::term::{Args, Kind, Term};
+use terms::term::{Kind, Term};
 
 /// A node whose first arguments are laid out, as many as `next` says.
 #[derive(Clone, Copy, Debug)]
@@ -35,39 +34,38 @@ pub struct Source<'a> {
 }
 
 impl Source<'_> {
-    /// Lays the node out behind the terms of a bank, or NULL for a number that is no node's. A refusal leaves the bank
+    /// Lays the node out behind the terms of a graph, or NULL for a number that is no node's. A refusal leaves it
     /// as it was.
-    pub fn put(&self, root: u32, bank: &mut Bank, places: &mut Places) -> Result<u32, BankFault>
-        requires { AreTerms (args_of self.now) bank.old.terms }
-        ensures laid { LaysOut self.now root bank.old.terms bank.new.terms result }
-        ensures full { result ≡ Err BankFault.BankFull → IsTooMuch self.now bank.old.terms root }
-        ensures err { OnErr result (bank.new.terms ≡ bank.old.terms) }
+    pub fn put(&self, root: u32, target: &mut Graph, places: &mut Places) -> Result<u32, AllocError>
+        requires { AreTerms (args_of self.now) target.old }
+        ensures laid { LaysOut self.now root target.old target.new result }
+        ensures grown { Grown target.old target.new }
+        ensures err { OnErr result (target.new ≡ target.old) }
     {
         if root as usize >= self.graph.len() {
-            return intern_null(places.allocator(), bank);
+            return intern_null(target);
         }
-        let mark = bank.mark();
-        match self.lay_out(root, bank, places) {
+        let mark = target.mark();
+        match self.lay_out(root, target, places) {
             Ok(id) => Ok(id),
-            Err(fault) => {
-                bank.release(mark);
-                Err(fault)
+            Err(want) => {
+                target.release(mark);
+                Err(want)
             }
         }
     }
 
-    /// Lays the node out behind the terms of a bank.
-    fn lay_out(&self, root: u32, bank: &mut Bank, places: &mut Places) -> Result<u32, BankFault>
+    /// Lays the node out behind the terms of a graph.
+    fn lay_out(&self, root: u32, target: &mut Graph, places: &mut Places) -> Result<u32, AllocError>
         requires root { root < length self.now.graph.now }
-        requires args { AreTerms (args_of self.now) bank.old.terms }
-        ensures laid { IfOk result (LaysRoot self.now root bank.old.terms bank.new.terms) }
-        ensures full { result ≡ Err BankFault.BankFull → IsTooMuch self.now bank.old.terms root }
-        ensures grown { Grown bank.old.terms bank.new.terms }
+        requires args { AreTerms (args_of self.now) target.old }
+        ensures laid { IfOk result (LaysRoot self.now root target.old target.new) }
+        ensures grown { Grown target.old target.new }
     {
         places.begin(self.graph.len())?;
         let mut stacks = Stacks::new(places.allocator(), root)?;
         while let Some(visit) = stacks.visits.pop() {
-            self.step(visit, &mut stacks, bank, places)?;
+            self.step(visit, &mut stacks, target, places)?;
         }
         Ok(stacks.numbers[0])
     }
@@ -77,13 +75,12 @@ impl Source<'_> {
         &self,
         visit: Visit,
         stacks: &mut Stacks,
-        bank: &mut Bank,
+        target: &mut Graph,
         places: &mut Places,
-    ) -> Result<(), BankFault>
-        requires { CanStep self.now visit stacks.old places.old bank.old.terms }
-        ensures step { Steps self.now visit stacks.old stacks.new places.old places.new bank.old bank.new result }
-        ensures full { FillsUp self.now visit stacks.old places.old bank.old.terms result }
-        ensures grown { Grown bank.old.terms bank.new.terms }
+    ) -> Result<(), AllocError>
+        requires { CanStep self.now visit stacks.old places.old target.old }
+        ensures step { Steps self.now visit stacks.old stacks.new places.old places.new target.old target.new result }
+        ensures grown { Grown target.old target.new }
     {
         self.graph.known();
         let node = self.graph.node(visit.node);
@@ -99,7 +96,7 @@ impl Source<'_> {
                     stacks.descend(waiting, args[next])?;
                     return Ok(());
                 }
-                let id = stacks.intern(node, bank)?;
+                let id = stacks.intern(node, target)?;
                 stacks.end(visit.node, id, places)?;
                 Ok(())
             }
@@ -108,7 +105,7 @@ impl Source<'_> {
                 Ok(())
             }
             Layout::Null => {
-                let id = intern_null(places.allocator(), bank)?;
+                let id = intern_null(target)?;
                 stacks.end(visit.node, id, places)?;
                 Ok(())
             }
@@ -170,21 +167,17 @@ impl Stacks {
     }
 
     /// The number of the node's term, whose arguments have the last numbers; these are taken away.
-    fn intern(&mut self, node: &Term, bank: &mut Bank) -> Result<u32, BankFault>
+    fn intern(&mut self, node: &Term, target: &mut Graph) -> Result<u32, AllocError>
         requires count { length node.now.args ≤ length self.old.numbers.items }
-        requires within { All (λ a. a < length bank.old.terms) self.old.numbers.items }
-        ensures interned { IfOk result (Interns bank.old.terms (last_term node.now self.old) bank.new.terms) }
-        ensures full { result ≡ Err BankFault.BankFull → HasNoRoom bank.old.terms (last_term node.now self.old) }
-        ensures within { IfOk result (λ id. id < length bank.new.terms) }
+        requires within { All (λ a. a < length target.old) self.old.numbers.items }
+        ensures interned { IfOk result (Interns target.old (last_term node.now self.old) target.new) }
+        ensures within { IfOk result (λ id. id < length target.new) }
         ensures numbers { OnOk result (self.new.numbers.items ≡ first_numbers node.now self.old) }
         ensures visits { self.new.visits ≡ self.old.visits }
-        ensures grown { Grown bank.old.terms bank.new.terms }
+        ensures grown { Grown target.old target.new }
     {
         let first = self.numbers.len() - node.args.numbers().len();
-        let args = Args::new(*self.numbers.allocator(), &self.numbers[first..])?;
-        let kind = node.kind;
-        let index = node.index;
-        let id = bank.intern(&Term { kind, index, args })?;
+        let id = target.add(node.kind, node.index, &self.numbers[first..])?;
         self.numbers.truncate(first);
         Ok(id)
     }
@@ -203,18 +196,11 @@ impl Stacks {
 }
 
 /// The number of NULL.
-fn intern_null(alloc: Global, bank: &mut Bank) -> Result<u32, BankFault>
-    ensures interned { IfOk result (λ id. Interns bank.old.terms (term Null (pos 0) []) bank.new.terms id) }
-    ensures full { result ≡ Err BankFault.BankFull → HasNoRoom bank.old.terms (term Null (pos 0) []) }
-    ensures within { IfOk result (λ id. id < length bank.new.terms) }
-    ensures grown { Grown bank.old.terms bank.new.terms }
-    ensures err { OnErr result (bank.new.terms ≡ bank.old.terms) }
+fn intern_null(target: &mut Graph) -> Result<u32, AllocError>
+    ensures interned { IfOk result (Interns target.old (term Null (pos 0) []) target.new) }
+    ensures within { IfOk result (λ id. id < length target.new) }
+    ensures grown { Grown target.old target.new }
+    ensures err { OnErr result (target.new ≡ target.old) }
 {
-    let args = Args::new(alloc, &[])?;
-    let id = bank.intern(&Term {
-        kind: Kind::Null,
-        index: 0,
-        args,
-    })?;
-    Ok(id)
+    target.add(Kind::Null, 0, &[])
 }

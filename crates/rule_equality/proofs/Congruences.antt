@@ -1,5 +1,5 @@
 -- Place by place, what the code compares is the row of `cong`.
-use Rattle.std.proofs.Common.{◌≡◌, inl, inr, ◌↔◌, ◌+◌, ◌<◌, ◌≤◌, ℕ, suc, ℤ, pos, Bool, false, IsTrue, List, [], ◌∷◌, drop, length, get_or, Some, slice_get, refl, ap, sym, ◌∙◌, subst}
+use Rattle.std.proofs.Common.{◌≡◌, inl, inr, ◌↔◌, ◌+◌, ◌<◌, ◌≤◌, ℕ, suc, ℤ, pos, Bool, false, IsTrue, Option, List, [], ◌∷◌, drop, length, get_or, Some, slice_get, refl, ap, sym, ◌∙◌, subst}
 use Rattle.std.proofs.Common.{drop-cons, add-one}
 use Rattle.std.proofs.lemmas.List.{drop_all}
 use Rattle.std.proofs.lemmas.Option.{slice_get_within}
@@ -16,7 +16,7 @@ same_node terms t u left right e g h =
     cc
 
 -- Terms of one kind and index are congruent where their arguments are; others are not.
-module _ (sorts : List Sort) (terms : List Term) (t u : ℕ) (left right : Term) (clause : List Literal) (g : slice_get terms t ≡ Some left) (h : slice_get terms u ≡ Some right) where
+module _ (sorts : List (Option Sort)) (terms : List Term) (t u : ℕ) (left right : Term) (clause : List Literal) (g : slice_get terms t ≡ Some left) (h : slice_get terms u ≡ Some right) where
   first_is : (row : IsCongruence sorts terms (pos t ∷ pos u ∷ []) clause) → row.left ≡ left
   first_is row =
       let e : pos t ∷ pos u ∷ [] ≡ pos row.t ∷ pos row.u ∷ [] = row.named in
@@ -50,12 +50,12 @@ module _ (sorts : List Sort) (terms : List Term) (t u : ℕ) (left right : Term)
       ((λ yes. alike same.0 same.1 (g.0 yes)), (λ row. g.1 (arguments row)))
 
 -- numbers that name no terms
-pub unnamed_first : (sorts : List Sort) (terms : List Term) (x y : ℤ) (clause : List Literal) → ((k : ℕ) → x ≡ pos k → k < length terms → ⊥) → IsCongruence sorts terms (x ∷ y ∷ []) clause → ⊥
+pub unnamed_first : (sorts : List (Option Sort)) (terms : List Term) (x y : ℤ) (clause : List Literal) → ((k : ℕ) → x ≡ pos k → k < length terms → ⊥) → IsCongruence sorts terms (x ∷ y ∷ []) clause → ⊥
 unnamed_first sorts terms x y clause none row =
     let e : x ∷ y ∷ [] ≡ pos row.t ∷ pos row.u ∷ [] = row.named in
     none row.t (cc) (slice_get_within terms row.t row.left row.left_is)
 
-pub unnamed_second : (sorts : List Sort) (terms : List Term) (x y : ℤ) (clause : List Literal) → ((k : ℕ) → y ≡ pos k → k < length terms → ⊥) → IsCongruence sorts terms (x ∷ y ∷ []) clause → ⊥
+pub unnamed_second : (sorts : List (Option Sort)) (terms : List Term) (x y : ℤ) (clause : List Literal) → ((k : ℕ) → y ≡ pos k → k < length terms → ⊥) → IsCongruence sorts terms (x ∷ y ∷ []) clause → ⊥
 unnamed_second sorts terms x y clause none row =
     let e : x ∷ y ∷ [] ≡ pos row.t ∷ pos row.u ∷ [] = row.named in
     none row.u (cc) (slice_get_within terms row.u row.right row.right_is)
@@ -63,7 +63,7 @@ unnamed_second sorts terms x y clause none row =
 at_place : (xs : List ℕ) (i : ℕ) → i < length xs → drop i xs ≡ get_or xs i 0 ∷ drop (i + 1) xs
 at_place xs i h = rw (add-one, drop-cons xs i 0) refl
 
-module _ (sorts : List Sort) (terms : List Term) where
+module _ (sorts : List (Option Sort)) (terms : List Term) where
   -- the rest is one
   one_rest : (a b : ℕ) (clause rest more : List Literal) → Passes sorts terms a b clause rest → Passes sorts terms a b clause more → rest ≡ more
   one_rest a b clause rest more (p, q, inl (s, c)) (u, v, inl (t, d)) = sym c ∙ d

@@ -43,7 +43,7 @@ denied : (x y : Bool) → (x ≡ true → y ≡ true) → not x || y ≡ true
 denied true y f = f refl
 denied false y f = refl
 
-module _ (language : Language) (e : Env) (v : ℕ → Value) (sorts : List Sort) (terms : List Term) (valued : IsValuation language e terms v) where
+module _ (language : Language) (e : Env) (v : ℕ → Value) (sorts : List (Option Sort)) (terms : List Term) (valued : IsValuation language e terms v) where
   -- terms of one kind and index whose arguments have the same values have one value
   pub one_value : (t u : ℕ) (left right : Term) → slice_get terms t ≡ Some left → slice_get terms u ≡ Some right → left.kind ≡ right.kind → left.index ≡ right.index → map v left.args ≡ map v right.args → v t ≡ v u
   one_value t u left right g h k i same =
@@ -68,7 +68,7 @@ module _ (language : Language) (e : Env) (v : ℕ → Value) (sorts : List Sort)
   congruent_true t u (a ∷ as') (b ∷ bs) clause f (rest, (p, q, inr (w, differ, s, c)), row) =
       rw c (denied (truth (v w)) (clause_true v rest) (λ h. congruent_true t u as' bs rest (λ more. f (λ j. (says language e v terms w a b valued s).yes h j ∷ more j)) row))
 
-pub congruence_sound : (language : Language) (sorts : List Sort) (terms : List Term) (root : Option ℕ) (clauses : List (List Literal)) (below : ℕ) (numbers : List ℤ) (clause : List Literal) → IsCongruence sorts terms numbers clause → IsConsequence language terms root clauses below clause
+pub congruence_sound : (language : Language) (sorts : List (Option Sort)) (terms : List Term) (root : Option ℕ) (clauses : List (List Literal)) (below : ℕ) (numbers : List ℤ) (clause : List Literal) → IsCongruence sorts terms numbers clause → IsConsequence language terms root clauses below clause
 congruence_sound language sorts terms root clauses below numbers clause row e v env valued hold =
     congruent_true language e v sorts terms valued row.t row.u row.left.args row.right.args clause
     (one_value language e v sorts terms valued row.t row.u row.left row.right row.left_is row.right_is row.kind row.index)

@@ -2,12 +2,12 @@
 
 ghost use Rattle.std.specs.Prelude.{◌≡◌, ◌↔◌, ◌<◌, ◌≤◌, ◌∷◌, [], IsTrue, IfSome, Some, length, pos};
 ghost use Rattle.vcc_rules.specs.Equality.{sides};
-ghost use Rattle.vcc_rules.specs.Law.{AreSorted};
+ghost use Rattle.vcc_rules.specs.Law.{AreSortsOf};
 ghost use Rattle.rule_equality.specs.Rows.{is_truth_value, IsBehind, Denies, Agrees, IsCongruent, IsCongruence};
 ghost use Rattle.rule_equality.specs.Sound.{congruence_sound};
 
 use int_ranges::exact::Wide;
-use term_bank::bank::Bank;
+use term_graph::graph::Graph;
 use terms::numbers::{Numbers, index_below};
 use terms::sort::Sort;
 use terms::term::{Literal, Term};
@@ -18,14 +18,14 @@ use vcc_rules::rule::{Clauses, Rule, Scratch};
 /// Two terms of one kind with equal arguments are equal. It takes the numbers of the two.
 #[derive(Clone, Copy, Debug)]
 pub struct Congruence<'a> {
-    /// The sorts of the terms.
-    pub sorts: &'a [Sort],
+    /// The sorts of the terms, as far as they have one.
+    pub sorts: &'a [Option<Sort>],
 }
 
 impl<'a> Rule for Congruence<'a> {
     type Data = Numbers;
 
-    ghost suits = { λ rule language terms. AreSorted language terms rule.sorts.now };
+    ghost suits = { λ rule language terms. AreSortsOf language terms rule.sorts.now };
 
     ghost gives = { λ rule terms earlier below detail clause. IsCongruence rule.sorts.now terms detail clause };
 
@@ -33,7 +33,7 @@ impl<'a> Rule for Congruence<'a> {
 
     fn concludes(
         &self,
-        terms: &Bank,
+        terms: &Graph,
         _earlier: &Clauses,
         _below: usize,
         detail: &Numbers,
@@ -50,8 +50,14 @@ impl<'a> Rule for Congruence<'a> {
 }
 
 #[tactic(auto, using(crate::proofs::Congruences::unnamed_first, crate::proofs::Congruences::unnamed_second))]
-fn is_congruence(sorts: &[Sort], terms: &Bank, t: i128, u: i128, clause: &[Literal]) -> bool
-    ensures { IsTrue result ↔ IsCongruence sorts.now terms.now.terms (t ∷ u ∷ []) clause.now }
+fn is_congruence(
+    sorts: &[Option<Sort>],
+    terms: &Graph,
+    t: i128,
+    u: i128,
+    clause: &[Literal],
+) -> bool
+    ensures { IsTrue result ↔ IsCongruence sorts.now terms.now (t ∷ u ∷ []) clause.now }
 {
     match (index_below(t, terms.len()), index_below(u, terms.len())) {
         (Some(t), Some(u)) => are_congruent(sorts, terms, t as u32, u as u32, clause),
@@ -62,10 +68,10 @@ fn is_congruence(sorts: &[Sort], terms: &Bank, t: i128, u: i128, clause: &[Liter
 /// Whether the terms are of one kind and index, and the clause says that they are equal if their arguments are.
 
 #[tactic(auto, using(crate::proofs::Congruences::congruent_row, crate::proofs::Congruences::unlike))]
-fn are_congruent(sorts: &[Sort], terms: &Bank, t: u32, u: u32, clause: &[Literal]) -> bool
-    requires left { t < length terms.now.terms }
-    requires right { u < length terms.now.terms }
-    ensures { IsTrue result ↔ IsCongruence sorts.now terms.now.terms (pos t ∷ pos u ∷ []) clause.now }
+fn are_congruent(sorts: &[Option<Sort>], terms: &Graph, t: u32, u: u32, clause: &[Literal]) -> bool
+    requires left { t < length terms.now }
+    requires right { u < length terms.now }
+    ensures { IsTrue result ↔ IsCongruence sorts.now terms.now (pos t ∷ pos u ∷ []) clause.now }
 {
     let left = terms.node(t);
     let right = terms.node(u);
@@ -101,14 +107,14 @@ struct Pair {
 
 #[tactic(auto, using(crate::proofs::Congruences::unlike_lengths))]
 fn is_congruent(
-    sorts: &[Sort],
-    terms: &Bank,
+    sorts: &[Option<Sort>],
+    terms: &Graph,
     of: Pair,
     left: &[u32],
     right: &[u32],
     clause: &[Literal],
 ) -> bool
-    ensures { IsTrue result ↔ IsCongruent sorts.now terms.now.terms of.left of.right left.now right.now clause.now }
+    ensures { IsTrue result ↔ IsCongruent sorts.now terms.now of.left of.right left.now right.now clause.now }
 {
     if left.len() != right.len() {
         return false;
@@ -129,10 +135,16 @@ fn is_congruent(
 
 /// The place behind what the clause says of two arguments, from the place `at` on.
 
-fn behind(sorts: &[Sort], terms: &Bank, args: Pair, clause: &[Literal], at: usize) -> Option<usize>
+fn behind(
+    sorts: &[Option<Sort>],
+    terms: &Graph,
+    args: Pair,
+    clause: &[Literal],
+    at: usize,
+) -> Option<usize>
     requires { at ≤ length clause.now }
     ensures within { IfSome result (λ next. next ≤ length clause.now) }
-    ensures passes { IsBehind sorts.now terms.now.terms args.left args.right clause.now at result }
+    ensures passes { IsBehind sorts.now terms.now args.left args.right clause.now at result }
 {
     if is_truth(sorts, args.left) || is_truth(sorts, args.right) {
         return None;
@@ -147,16 +159,16 @@ fn behind(sorts: &[Sort], terms: &Bank, args: Pair, clause: &[Literal], at: usiz
 }
 
 /// Whether the literal denies that the two terms are equal.
-fn denies(terms: &Bank, pair: Pair, l: Literal) -> bool
-    ensures { IsTrue result ↔ Denies terms.now.terms pair.left pair.right l }
+fn denies(terms: &Graph, pair: Pair, l: Literal) -> bool
+    ensures { IsTrue result ↔ Denies terms.now pair.left pair.right l }
 {
     !l.positive && equates(terms, l.term, pair)
 }
 
 /// Whether the literals say that the two terms are equal; of truth values, that the right one is true if the left one
 /// is.
-fn agrees(sorts: &[Sort], terms: &Bank, pair: Pair, rest: &[Literal]) -> bool
-    ensures { IsTrue result ↔ Agrees sorts.now terms.now.terms pair.left pair.right rest.now }
+fn agrees(sorts: &[Option<Sort>], terms: &Graph, pair: Pair, rest: &[Literal]) -> bool
+    ensures { IsTrue result ↔ Agrees sorts.now terms.now pair.left pair.right rest.now }
 {
     if is_truth(sorts, pair.left) {
         return is_pair(rest, no(pair.left), yes(pair.right));
@@ -168,8 +180,8 @@ fn agrees(sorts: &[Sort], terms: &Bank, pair: Pair, rest: &[Literal]) -> bool
 }
 
 /// Whether the term is the equality of the two.
-fn equates(terms: &Bank, term: u32, pair: Pair) -> bool
-    ensures { IsTrue result ↔ (sides terms.now.terms term ≡ Some (pair.left, pair.right)) }
+fn equates(terms: &Graph, term: u32, pair: Pair) -> bool
+    ensures { IsTrue result ↔ (sides terms.now term ≡ Some (pair.left, pair.right)) }
 {
     match equality_at(terms, i128::from(term)) {
         Some(e) => e.left == pair.left && e.right == pair.right,
@@ -177,12 +189,15 @@ fn equates(terms: &Bank, term: u32, pair: Pair) -> bool
     }
 }
 
-/// Whether the term is a truth value.
-fn is_truth(sorts: &[Sort], term: u32) -> bool
+/// Whether the term is a truth value; one without a sort counts as one.
+fn is_truth(sorts: &[Option<Sort>], term: u32) -> bool
     ensures { result ≡ is_truth_value sorts.now term }
 {
     match sorts.get(term as usize) {
-        Some(sort) => *sort == Sort::Bool,
+        Some(sort) => match sort {
+            Some(sort) => *sort == Sort::Bool,
+            None => true,
+        },
         None => true,
     }
 }

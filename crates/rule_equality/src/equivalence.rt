@@ -5,7 +5,7 @@ ghost use Rattle.rule_equality.specs.Rows.{IsRefl, IsSym, IsTrans};
 ghost use Rattle.rule_equality.specs.Sound.{refl_sound, sym_sound, trans_sound};
 
 use int_ranges::exact::Wide;
-use term_bank::bank::Bank;
+use term_graph::graph::Graph;
 use terms::numbers::Numbers;
 use terms::term::Literal;
 use vcc_rules::equality::equality_at;
@@ -26,7 +26,7 @@ impl Rule for Reflexivity {
 
     fn concludes(
         &self,
-        terms: &Bank,
+        terms: &Graph,
         _earlier: &Clauses,
         _below: usize,
         detail: &Numbers,
@@ -59,7 +59,7 @@ impl Rule for Symmetry {
 
     fn concludes(
         &self,
-        terms: &Bank,
+        terms: &Graph,
         _earlier: &Clauses,
         _below: usize,
         detail: &Numbers,
@@ -96,7 +96,7 @@ impl Rule for Transitivity {
 
     fn concludes(
         &self,
-        terms: &Bank,
+        terms: &Graph,
         _earlier: &Clauses,
         _below: usize,
         detail: &Numbers,
@@ -112,8 +112,8 @@ impl Rule for Transitivity {
     ghost sound = { λ rule language terms earlier below detail clause suits. trans_sound language terms earlier.root earlier.list.items below detail clause };
 }
 
-fn is_trans(terms: &Bank, t: i128, u: i128, w: i128, clause: &[Literal]) -> bool
-    ensures { IsTrue result ↔ IsTrans terms.now.terms (t ∷ u ∷ w ∷ []) clause.now }
+fn is_trans(terms: &Graph, t: i128, u: i128, w: i128, clause: &[Literal]) -> bool
+    ensures { IsTrue result ↔ IsTrans terms.now (t ∷ u ∷ w ∷ []) clause.now }
 {
     match (
         equality_at(terms, t),

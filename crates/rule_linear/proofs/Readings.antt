@@ -1,10 +1,10 @@
--- A term of a bank is the sum of its shape, whatever the depth to which it is read.
+-- A term of a graph is the sum of its shape, whatever the depth to which it is read.
 use Rattle.std.proofs.Common.{◌≡◌, ℕ, zero, suc, ◌<◌, List, [], ◌∷◌, Some, None, Option, slice_get, All, ℤ, refl, ap, sym, ◌∙◌, arith}
 use Rattle.std.proofs.lemmas.List.Elements.{All-head, All-tail}
 use Rattle.terms.specs.declared.term.Term.{Term}
 use Rattle.terms.specs.declared.term.Kind.{Kind}
 use Rattle.terms.specs.declared.term.Kind.TheVariants.{Int, Add, Sub, Mul}
-use Rattle.term_bank.specs.Bank.{IsBank}
+use Rattle.term_graph.specs.Graph.{IsGraph}
 use Rattle.rule_linear.specs.declared.form.Shape.{Shape}
 use Rattle.rule_linear.specs.declared.form.Shape.TheVariants as s
 use Rattle.rule_linear.specs.Below.{IsBelow}
@@ -31,18 +31,18 @@ shape_below terms Sub n (a ∷ b ∷ []) t h = (All-head (λ a. a < t) a (b ∷ 
 shape_below terms Mul n (a ∷ b ∷ []) t h = product_below (number_at terms a) (number_at terms b) t a b (All-head (λ a. a < t) a (b ∷ []) h) (All-head (λ a. a < t) b [] (All-tail (λ a. a < t) a (b ∷ []) h))
 shape_below terms _ n _ t h = tt
 
-in_below : (terms : List Term) (t : ℕ) (o : Option Term) → IsBank terms → slice_get terms t ≡ o → IsBelow t (shape_in terms o)
+in_below : (terms : List Term) (t : ℕ) (o : Option Term) → IsGraph terms → slice_get terms t ≡ o → IsBelow t (shape_in terms o)
 in_below terms t None b g = tt
 in_below terms t (Some n) b g = shape_below terms n.kind n.index n.args t (b.downward t n g)
 
-same_depth : (terms : List Term) → IsBank terms → (m n t : ℕ) → t < m → t < n → sum_within m terms t ≡ sum_within n terms t
+same_depth : (terms : List Term) → IsGraph terms → (m n t : ℕ) → t < m → t < n → sum_within m terms t ≡ sum_within n terms t
 unfolding sum_within
 same_depth terms b zero n t h k = absurd (omega arith)
 same_depth terms b (suc m) zero t h k = absurd (omega arith)
 same_depth terms b (suc m) (suc n) t h k =
     same_shape (sum_within m terms) (sum_within n terms) t (shape_in terms (slice_get terms t)) (in_below terms t (slice_get terms t) b refl) (λ a l. same_depth terms b m n a (omega arith) (omega arith))
 
-pub sum_is : (terms : List Term) (t : ℕ) (n : Term) (h : Shape) → IsBank terms → slice_get terms t ≡ Some n → h ≡ shape_of terms n.kind n.index n.args → sum_at terms t ≡ of_shape (sum_at terms) t h
+pub sum_is : (terms : List Term) (t : ℕ) (n : Term) (h : Shape) → IsGraph terms → slice_get terms t ≡ Some n → h ≡ shape_of terms n.kind n.index n.args → sum_at terms t ≡ of_shape (sum_at terms) t h
 unfolding sum_at sum_within
 sum_is terms t n h b g e =
     let f : shape_in terms (slice_get terms t) ≡ h = ap (shape_in terms) g ∙ sym e in

@@ -120,6 +120,6 @@ unfoldable pub sum_within : ℕ → List Term → ℕ → Sum
 sum_within zero terms t = Single t
 sum_within (suc n) terms t = of_shape (sum_within n terms) t (shape_in terms (slice_get terms t))
 
--- the sum that a term of a bank is; each of its arguments has a lower number than it
+-- the sum that a term of a graph is; each of its arguments has a lower number than it
 unfoldable pub sum_at : List Term → ℕ → Sum
 sum_at terms t = sum_within (suc t) terms t

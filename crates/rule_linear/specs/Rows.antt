@@ -4,8 +4,6 @@ use Rattle.int_ranges.specs.declared.exact.Wide.{Wide}
 use Rattle.terms.specs.declared.term.Term.{Term}
 use Rattle.terms.specs.declared.term.Literal.{Literal}
 use Rattle.terms.specs.declared.sort.Sort.{Sort}
-use Rattle.terms.specs.Formula.{Formula, Stands}
-use Rattle.term_meaning.specs.Meaning.{Language, sort_in}
 use Rattle.std.specs.Prelude.{slice_get, option_and_then}
 use Rattle.terms.specs.declared.term.Kind.{Kind}
 use Rattle.terms.specs.declared.term.Kind.TheVariants.{Le}
@@ -14,10 +12,6 @@ use Rattle.vcc_rules.specs.Rows.{yes, no}
 use Rattle.rule_linear.specs.declared.form.Part.TheVariants.{Coefficient, Constant}
 use Rattle.rule_linear.specs.Forms.{FirstLeaves}
 use Rattle.rule_linear.specs.Bounds.{is_int, total, total_steps, is_weighting}
-
--- the sorts that a rule holds are those of the terms' trees
-pub record AreSortsOf (language : Language) (terms : List Term) (sorts : List (Option Sort)) : Type 0 where
-  pub each : (t : ℕ) (y : Sort) → slice_get sorts t ≡ Some (Some y) → (f : Formula) × Stands terms t f × (sort_in language f ≡ Some y)
 
 -- linear m1 .. mk: one multiplier for each literal, and the sum of multiplier times bound is a positive number
 pub record IsLinear (sorts : List (Option Sort)) (terms : List Term) (ms : List ℤ) (clause : List Literal) : Type 0 where

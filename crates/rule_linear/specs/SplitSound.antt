@@ -13,9 +13,9 @@ use Rattle.term_meaning.specs.ValueSorts.{HasSort}
 use Rattle.term_meaning.proofs.Sorted.{gives_sorted}
 use Rattle.term_meaning.proofs.Valuations.{trees}
 use Rattle.vcc_rules.specs.EqualitySound.{says}
-use Rattle.vcc_rules.specs.Law.{IsConsequence}
+use Rattle.vcc_rules.specs.Law.{IsConsequence, AreSortsOf}
 use Rattle.rule_linear.specs.Bounds.{is_int_sort, is_int}
-use Rattle.rule_linear.specs.Rows.{AreSortsOf, compared_of, compared, IsSplit}
+use Rattle.rule_linear.specs.Rows.{compared_of, compared, IsSplit}
 
 int_sort : (o : Option (Option Sort)) → is_int_sort o ≡ true → o ≡ Some (Some s.Int)
 int_sort None h = cc

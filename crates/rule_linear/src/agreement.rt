@@ -10,7 +10,7 @@ ghost use Rattle.rule_linear.specs.Tests.{multiple, AgreesAt, Agree, AgreeAll, b
 use crate::bound::{Bound, Weights, bound_for, bound_part, total_part};
 use crate::form::{Part, Shape, shape_at};
 use int_ranges::exact::mul_exact;
-use term_bank::bank::Bank;
+use term_graph::graph::Graph;
 
 /// So many times a bound, or nothing.
 #[derive(Clone, Copy, Debug)]
@@ -20,9 +20,9 @@ pub struct Target {
 }
 
 /// Whether the number is so many times what the bound has at the unit; 0 where there is no bound.
-fn is_multiple(terms: &Bank, number: i128, goal: Target, unit: u32) -> bool
-    requires { IsGoal terms.now.terms (length terms.now.terms) goal.bound }
-    ensures { IsTrue result ↔ (number ≡ multiple terms.now.terms goal (Coefficient unit)) }
+fn is_multiple(terms: &Graph, number: i128, goal: Target, unit: u32) -> bool
+    requires { IsGoal terms.now (length terms.now) goal.bound }
+    ensures { IsTrue result ↔ (number ≡ multiple terms.now goal (Coefficient unit)) }
 {
     match goal.bound {
         Some(b) => {
@@ -37,11 +37,11 @@ fn is_multiple(terms: &Bank, number: i128, goal: Target, unit: u32) -> bool
 }
 
 /// Whether the sum of the multiples agrees with so many times the goal at the unit.
-fn agrees_at(terms: &Bank, weights: Weights<'_>, goal: Target, unit: u32) -> bool
-    requires reach { Reach (length terms.now.terms) weights (length weights.literals.now) }
-    requires known { IsTotalKnown weights terms.now.terms (length weights.literals.now) }
-    requires goal { IsGoal terms.now.terms (length terms.now.terms) goal.bound }
-    ensures { IsTrue result ↔ AgreesAt weights.entry terms.now.terms goal unit }
+fn agrees_at(terms: &Graph, weights: Weights<'_>, goal: Target, unit: u32) -> bool
+    requires reach { Reach (length terms.now) weights (length weights.literals.now) }
+    requires known { IsTotalKnown weights terms.now (length weights.literals.now) }
+    requires goal { IsGoal terms.now (length terms.now) goal.bound }
+    ensures { IsTrue result ↔ AgreesAt weights.entry terms.now goal unit }
 {
     let end = weights.literals.len();
     let sum = total_part(terms, weights, end, Part::Coefficient(unit));
@@ -49,12 +49,12 @@ fn agrees_at(terms: &Bank, weights: Weights<'_>, goal: Target, unit: u32) -> boo
 }
 
 /// Whether the sum of the multiples agrees with so many times the goal at each unit of the term.
-fn agrees_on(terms: &Bank, weights: Weights<'_>, goal: Target, t: u32) -> bool
-    requires term { t < length terms.now.terms }
-    requires reach { Reach (length terms.now.terms) weights (length weights.literals.now) }
-    requires known { IsTotalKnown weights terms.now.terms (length weights.literals.now) }
-    requires goal { IsGoal terms.now.terms (length terms.now.terms) goal.bound }
-    ensures { IsTrue result ↔ Agree weights.entry terms.now.terms goal (units (sum_at terms.now.terms t)) }
+fn agrees_on(terms: &Graph, weights: Weights<'_>, goal: Target, t: u32) -> bool
+    requires term { t < length terms.now }
+    requires reach { Reach (length terms.now) weights (length weights.literals.now) }
+    requires known { IsTotalKnown weights terms.now (length weights.literals.now) }
+    requires goal { IsGoal terms.now (length terms.now) goal.bound }
+    ensures { IsTrue result ↔ Agree weights.entry terms.now goal (units (sum_at terms.now t)) }
 {
     match shape_at(terms, t) {
         Shape::Number(_) => true,
@@ -74,12 +74,12 @@ fn agrees_on(terms: &Bank, weights: Weights<'_>, goal: Target, t: u32) -> bool
 }
 
 /// Whether the sum of the multiples agrees with so many times the goal at each unit of the bound.
-pub fn agrees_with(terms: &Bank, weights: Weights<'_>, goal: Target, bound: Option<Bound>) -> bool
-    requires sides { IfSome bound (AreWithin (length terms.now.terms)) }
-    requires reach { Reach (length terms.now.terms) weights (length weights.literals.now) }
-    requires known { IsTotalKnown weights terms.now.terms (length weights.literals.now) }
-    requires goal { IsGoal terms.now.terms (length terms.now.terms) goal.bound }
-    ensures { IsTrue result ↔ Agree weights.entry terms.now.terms goal (bound_units terms.now.terms bound) }
+pub fn agrees_with(terms: &Graph, weights: Weights<'_>, goal: Target, bound: Option<Bound>) -> bool
+    requires sides { IfSome bound (AreWithin (length terms.now)) }
+    requires reach { Reach (length terms.now) weights (length weights.literals.now) }
+    requires known { IsTotalKnown weights terms.now (length weights.literals.now) }
+    requires goal { IsGoal terms.now (length terms.now) goal.bound }
+    ensures { IsTrue result ↔ Agree weights.entry terms.now goal (bound_units terms.now bound) }
 {
     match bound {
         Some(b) => {
@@ -92,12 +92,12 @@ pub fn agrees_with(terms: &Bank, weights: Weights<'_>, goal: Target, bound: Opti
 }
 
 /// Whether the sum of the multiples agrees with so many times the goal at each unit of the literals' bounds.
-pub fn agrees(terms: &Bank, weights: Weights<'_>, goal: Target) -> bool
-    requires reach { Reach (length terms.now.terms) weights (length weights.literals.now) }
+pub fn agrees(terms: &Graph, weights: Weights<'_>, goal: Target) -> bool
+    requires reach { Reach (length terms.now) weights (length weights.literals.now) }
     requires lengths { length weights.multipliers.now ≡ length weights.literals.now }
-    requires known { IsTotalKnown weights terms.now.terms (length weights.literals.now) }
-    requires goal { IsGoal terms.now.terms (length terms.now.terms) goal.bound }
-    ensures { IsTrue result ↔ AgreeAll weights.entry terms.now.terms goal }
+    requires known { IsTotalKnown weights terms.now (length weights.literals.now) }
+    requires goal { IsGoal terms.now (length terms.now) goal.bound }
+    ensures { IsTrue result ↔ AgreeAll weights.entry terms.now goal }
 {
     for i in 0..weights.literals.len() {
         let bound = bound_for(terms, weights.sorts, weights.literals[i]);

@@ -7,7 +7,7 @@ ghost use Rattle.rule_linear.specs.Bounds.{is_int, bound_at, bound_number, liter
 ghost use Rattle.rule_linear.specs.Sides.{AreWithin, Reach, first_total, fits_literals};
 
 use crate::form::{Part, part_at, wrapped_difference, wrapped_product, wrapped_sum};
-use term_bank::bank::Bank;
+use term_graph::graph::Graph;
 use terms::sort::Sort;
 use terms::term::{Kind, Literal};
 
@@ -42,10 +42,10 @@ pub fn is_int_term(sorts: &[Option<Sort>], t: u32) -> bool
 }
 
 /// What the negation of a literal bounds.
-pub fn bound_for(terms: &Bank, sorts: &[Option<Sort>], l: Literal) -> Option<Bound>
-    requires { l.term < length terms.now.terms }
-    ensures value { result ≡ bound_at sorts.now terms.now.terms l }
-    ensures within { IfSome result (AreWithin (length terms.now.terms)) }
+pub fn bound_for(terms: &Graph, sorts: &[Option<Sort>], l: Literal) -> Option<Bound>
+    requires { l.term < length terms.now }
+    ensures value { result ≡ bound_at sorts.now terms.now l }
+    ensures within { IfSome result (AreWithin (length terms.now)) }
 {
     let node = terms.node(l.term);
     match (node.kind, node.args.numbers(), l.positive) {
@@ -74,9 +74,9 @@ pub fn bound_for(terms: &Bank, sorts: &[Option<Sort>], l: Literal) -> Option<Bou
 }
 
 /// The number that a part has in the form of the bound, modulo 2^128.
-pub fn bound_part(terms: &Bank, b: Bound, part: Part) -> i128
-    requires { AreWithin (length terms.now.terms) b }
-    ensures { result ≡ int_wrap w128 (bound_number terms.now.terms b part) }
+pub fn bound_part(terms: &Graph, b: Bound, part: Part) -> i128
+    requires { AreWithin (length terms.now) b }
+    ensures { result ≡ int_wrap w128 (bound_number terms.now b part) }
 {
     let left = part_at(terms, b.left, part);
     let right = part_at(terms, b.right, part);
@@ -95,9 +95,9 @@ fn part_of_one(strict: bool, part: Part) -> i128
 }
 
 /// The number that a part has in the form of a literal's bound, modulo 2^128; 0 where it has no bound.
-fn literal_part(terms: &Bank, sorts: &[Option<Sort>], l: Literal, part: Part) -> i128
-    requires { l.term < length terms.now.terms }
-    ensures { result ≡ int_wrap w128 (literal_number terms.now.terms (bound_at sorts.now terms.now.terms l) part) }
+fn literal_part(terms: &Graph, sorts: &[Option<Sort>], l: Literal, part: Part) -> i128
+    requires { l.term < length terms.now }
+    ensures { result ≡ int_wrap w128 (literal_number terms.now (bound_at sorts.now terms.now l) part) }
 {
     match bound_for(terms, sorts, l) {
         Some(b) => bound_part(terms, b, part),
@@ -106,9 +106,9 @@ fn literal_part(terms: &Bank, sorts: &[Option<Sort>], l: Literal, part: Part) ->
 }
 
 /// The number that a part has in the sum of the first multiples, modulo 2^128.
-pub fn total_part(terms: &Bank, weights: Weights<'_>, end: usize, part: Part) -> i128
-    requires { Reach (length terms.now.terms) weights end }
-    ensures { result ≡ int_wrap w128 (first_total weights.entry terms.now.terms end part) }
+pub fn total_part(terms: &Graph, weights: Weights<'_>, end: usize, part: Part) -> i128
+    requires { Reach (length terms.now) weights end }
+    ensures { result ≡ int_wrap w128 (first_total weights.entry terms.now end part) }
 {
     let mut sum = 0;
     for i in 0..end {
@@ -137,9 +137,9 @@ fn fits(bound: Option<Bound>, m: i128) -> bool
 
 /// Whether there is one multiplier for each literal, and each literal has a bound that may have it.
 #[tactic(auto, using(crate::proofs::Totals::weighting_at, crate::proofs::Totals::unlike_lengths))]
-pub fn are_weights(terms: &Bank, weights: Weights<'_>) -> bool
-    requires { IsWithin (length terms.now.terms) weights.literals.now }
-    ensures { result ≡ fits_literals weights.entry terms.now.terms }
+pub fn are_weights(terms: &Graph, weights: Weights<'_>) -> bool
+    requires { IsWithin (length terms.now) weights.literals.now }
+    ensures { result ≡ fits_literals weights.entry terms.now }
 {
     if weights.multipliers.len() != weights.literals.len() {
         return false;

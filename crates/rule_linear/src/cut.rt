@@ -1,13 +1,12 @@
 //! Multiples of bounds, divided and rounded: `cut`.
 
 ghost use Rattle.std.specs.Prelude.{◌≡◌, ◌↔◌, ◌<◌, ◌≤ℤ◌, ◌+ℤ◌, pos, int_div, int_rem, Some, IsTrue, IfOk, IfErr, IfSome, length};
-ghost use Rattle.vcc_rules.specs.Law.{IsWithin};
+ghost use Rattle.vcc_rules.specs.Law.{AreSortsOf, IsWithin};
 ghost use Rattle.rule_linear.specs.declared.form.Part.TheVariants.{Constant};
 ghost use Rattle.rule_linear.specs.Bounds.{bound_number};
 ghost use Rattle.rule_linear.specs.CutSound.{cut_sound};
 ghost use Rattle.rule_linear.specs.Cuts.{conclusion, rounded_up, IsCut, CutLeaves};
 ghost use Rattle.rule_linear.specs.CutTests.{IsCutRowOf, CutRowLeavesOf, IsRounded};
-ghost use Rattle.rule_linear.specs.Rows.{AreSortsOf};
 ghost use Rattle.rule_linear.specs.Sides.{AreWithin, Reach};
 ghost use Rattle.rule_linear.specs.Walks.{IsTotalKnown, IsBoundKnown};
 
@@ -16,7 +15,7 @@ use crate::bound::{Bound, Weights, are_weights, bound_part, total_part};
 use crate::form::Part;
 use crate::steps::{add_up, bound_form};
 use int_ranges::exact::{Wide, add_exact, div_trunc, rem_trunc};
-use term_bank::bank::Bank;
+use term_graph::graph::Graph;
 use terms::numbers::Numbers;
 use terms::sort::Sort;
 use terms::term::{Kind, Literal};
@@ -41,7 +40,7 @@ impl<'a> Rule for Cut<'a> {
 
     fn concludes(
         &self,
-        terms: &Bank,
+        terms: &Graph,
         _earlier: &Clauses,
         _below: usize,
         detail: &Numbers,
@@ -60,15 +59,15 @@ impl<'a> Rule for Cut<'a> {
 /// The operands of the first number on the way that leaves 128 bits.
 #[tactic(auto, using(crate::proofs::Cutting::no_numbers, crate::proofs::Cutting::no_numbers_leave, crate::proofs::Cutting::no_literals, crate::proofs::Cutting::no_literals_leave, crate::proofs::Cutting::is_row, crate::proofs::Cutting::row_leaves, crate::proofs::Cutting::no_row_of, crate::proofs::Cutting::exact_of))]
 fn cut_of(
-    terms: &Bank,
+    terms: &Graph,
     sorts: &[Option<Sort>],
     numbers: &[i128],
     clause: &[Literal],
 ) -> Result<bool, Wide>
-    requires { IsWithin (length terms.now.terms) clause.now }
-    ensures rows { IfOk result (λ yes. IsTrue yes ↔ IsCut sorts.now terms.now.terms numbers.now clause.now) }
-    ensures exact { IfOk result (λ yes. (w : Wide) → CutLeaves sorts.now terms.now.terms numbers.now clause.now w → ⊥) }
-    ensures wide { IfErr result (CutLeaves sorts.now terms.now.terms numbers.now clause.now) }
+    requires { IsWithin (length terms.now) clause.now }
+    ensures rows { IfOk result (λ yes. IsTrue yes ↔ IsCut sorts.now terms.now numbers.now clause.now) }
+    ensures exact { IfOk result (λ yes. (w : Wide) → CutLeaves sorts.now terms.now numbers.now clause.now w → ⊥) }
+    ensures wide { IfErr result (CutLeaves sorts.now terms.now numbers.now clause.now) }
 {
     let Some((divisor, multipliers)) = numbers.split_first() else {
         return Ok(false);
@@ -85,10 +84,10 @@ fn cut_of(
 }
 
 /// What the last literal concludes, where it can be one of a cut.
-fn conclusion_for(terms: &Bank, l: Literal) -> Option<Bound>
-    requires { l.term < length terms.now.terms }
-    ensures value { result ≡ conclusion terms.now.terms l }
-    ensures within { IfSome result (AreWithin (length terms.now.terms)) }
+fn conclusion_for(terms: &Graph, l: Literal) -> Option<Bound>
+    requires { l.term < length terms.now }
+    ensures value { result ≡ conclusion terms.now l }
+    ensures within { IfSome result (AreWithin (length terms.now)) }
 {
     let node = terms.node(l.term);
     match (node.kind, node.args.numbers(), l.positive) {
@@ -107,12 +106,12 @@ fn conclusion_for(terms: &Bank, l: Literal) -> Option<Bound>
 /// # Errors
 /// The operands of the first number on the way that leaves 128 bits.
 #[tactic(auto, using(crate::proofs::Cutting::no_row, crate::proofs::Cutting::no_row_leaves, crate::proofs::Cutting::no_conclusion, crate::proofs::Cutting::small_divisor, crate::proofs::Cutting::unweighted, crate::proofs::Cutting::sum_leaves, crate::proofs::Cutting::goal_leaves, crate::proofs::Cutting::none_leaves, crate::proofs::Rows::lengths, crate::proofs::Rows::whole_known))]
-fn is_cut(terms: &Bank, weights: Weights<'_>, divisor: i128, last: Literal) -> Result<bool, Wide>
-    requires within { IsWithin (length terms.now.terms) weights.literals.now }
-    requires last { last.term < length terms.now.terms }
-    ensures rows { IfOk result (λ yes. IsTrue yes ↔ IsCutRowOf weights.entry terms.now.terms divisor last) }
-    ensures exact { IfOk result (λ yes. (w : Wide) → CutRowLeavesOf weights.entry terms.now.terms divisor last w → ⊥) }
-    ensures wide { IfErr result (CutRowLeavesOf weights.entry terms.now.terms divisor last) }
+fn is_cut(terms: &Graph, weights: Weights<'_>, divisor: i128, last: Literal) -> Result<bool, Wide>
+    requires within { IsWithin (length terms.now) weights.literals.now }
+    requires last { last.term < length terms.now }
+    ensures rows { IfOk result (λ yes. IsTrue yes ↔ IsCutRowOf weights.entry terms.now divisor last) }
+    ensures exact { IfOk result (λ yes. (w : Wide) → CutRowLeavesOf weights.entry terms.now divisor last w → ⊥) }
+    ensures wide { IfErr result (CutRowLeavesOf weights.entry terms.now divisor last) }
 {
     let Some(goal) = conclusion_for(terms, last) else {
         return Ok(false);
@@ -134,15 +133,15 @@ fn is_cut(terms: &Bank, weights: Weights<'_>, divisor: i128, last: Literal) -> R
 
 /// Whether the sum of the multiples is so many times the target, rounded.
 #[tactic(auto, using(crate::proofs::Cutting::goal_is, crate::proofs::Cutting::sides_are, crate::proofs::Cutting::unlike_sum, crate::proofs::Cutting::unlike_goal))]
-fn is_rounded(terms: &Bank, weights: Weights<'_>, target: Target, goal: Bound) -> bool
+fn is_rounded(terms: &Graph, weights: Weights<'_>, target: Target, goal: Bound) -> bool
     requires factor { pos 1 ≤ℤ target.factor }
     requires bound { target.bound ≡ Some goal }
-    requires sides { AreWithin (length terms.now.terms) goal }
-    requires goal { IsBoundKnown terms.now.terms goal }
-    requires reach { Reach (length terms.now.terms) weights (length weights.literals.now) }
+    requires sides { AreWithin (length terms.now) goal }
+    requires goal { IsBoundKnown terms.now goal }
+    requires reach { Reach (length terms.now) weights (length weights.literals.now) }
     requires lengths { length weights.multipliers.now ≡ length weights.literals.now }
-    requires known { IsTotalKnown weights terms.now.terms (length weights.literals.now) }
-    ensures { IsTrue result ↔ IsRounded weights.entry terms.now.terms target goal }
+    requires known { IsTotalKnown weights terms.now (length weights.literals.now) }
+    ensures { IsTrue result ↔ IsRounded weights.entry terms.now target goal }
 {
     let end = weights.literals.len();
     if !agrees(terms, weights, target) {

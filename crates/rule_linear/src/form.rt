@@ -5,7 +5,7 @@ ghost use Rattle.std.specs.Int.{w128, int_wrap};
 ghost use Rattle.rule_linear.specs.Below.{IsBelow};
 ghost use Rattle.rule_linear.specs.Forms.{Number, Single, whole_number, number_at as whole_number_at, sum_at, of_shape, number_of, product_shape, shape_of};
 
-use term_bank::bank::Bank;
+use term_graph::graph::Graph;
 use terms::term::{Kind, Term};
 
 /// How an Int term is put together of others, by their numbers.
@@ -41,10 +41,10 @@ fn whole_number_of(node: &Term) -> Option<i128>
 }
 
 /// The shape of a product of these two.
-fn product_of(terms: &Bank, a: u32, b: u32) -> Shape
-    requires left { a < length terms.now.terms }
-    requires right { b < length terms.now.terms }
-    ensures { result ≡ product_shape (whole_number_at terms.now.terms a) (whole_number_at terms.now.terms b) a b }
+fn product_of(terms: &Graph, a: u32, b: u32) -> Shape
+    requires left { a < length terms.now }
+    requires right { b < length terms.now }
+    ensures { result ≡ product_shape (whole_number_at terms.now a) (whole_number_at terms.now b) a b }
 {
     if let Some(n) = whole_number_of(terms.node(a)) {
         return Shape::Times(n, b);
@@ -56,10 +56,10 @@ fn product_of(terms: &Bank, a: u32, b: u32) -> Shape
 }
 
 /// The shape of a node at the number `t`.
-fn node_shape(terms: &Bank, t: u32, node: &Term) -> Shape
-    requires within { t < length terms.now.terms }
+fn node_shape(terms: &Graph, t: u32, node: &Term) -> Shape
+    requires within { t < length terms.now }
     requires below { All (λ a. a < t) node.now.args }
-    ensures { result ≡ shape_of terms.now.terms node.now.kind node.now.index node.now.args }
+    ensures { result ≡ shape_of terms.now node.now.kind node.now.index node.now.args }
 {
     match (node.kind, node.args.numbers()) {
         (Kind::Int, []) => Shape::Number(node.index),
@@ -71,9 +71,9 @@ fn node_shape(terms: &Bank, t: u32, node: &Term) -> Shape
 }
 
 /// The shape of the term with this number.
-pub fn shape_at(terms: &Bank, t: u32) -> Shape
-    requires { t < length terms.now.terms }
-    ensures is { sum_at terms.now.terms t ≡ of_shape (sum_at terms.now.terms) t result }
+pub fn shape_at(terms: &Graph, t: u32) -> Shape
+    requires { t < length terms.now }
+    ensures is { sum_at terms.now t ≡ of_shape (sum_at terms.now) t result }
     ensures below { IsBelow t result }
 {
     terms.known();
@@ -123,9 +123,9 @@ pub fn wrapped_product(x: i128, y: i128) -> i128
 }
 
 /// The number that a part has in the form of the term, modulo 2^128.
-pub fn part_at(terms: &Bank, t: u32, part: Part) -> i128
-    requires { t < length terms.now.terms }
-    ensures { result ≡ int_wrap w128 (number_of (sum_at terms.now.terms t) part) }
+pub fn part_at(terms: &Graph, t: u32, part: Part) -> i128
+    requires { t < length terms.now }
+    ensures { result ≡ int_wrap w128 (number_of (sum_at terms.now t) part) }
 {
     match shape_at(terms, t) {
         Shape::Number(n) => part_of_number(n, part),

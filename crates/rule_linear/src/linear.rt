@@ -1,8 +1,8 @@
 //! Multiples of bounds that sum to a positive number: `linear`.
 
 ghost use Rattle.std.specs.Prelude.{◌≡◌, ◌↔◌, IsTrue, IfOk, IfErr, length};
-ghost use Rattle.vcc_rules.specs.Law.{IsWithin};
-ghost use Rattle.rule_linear.specs.Rows.{AreSortsOf, IsLinear, LinearLeaves};
+ghost use Rattle.vcc_rules.specs.Law.{AreSortsOf, IsWithin};
+ghost use Rattle.rule_linear.specs.Rows.{IsLinear, LinearLeaves};
 ghost use Rattle.rule_linear.specs.Sides.{Reach};
 ghost use Rattle.rule_linear.specs.Sound.{linear_sound};
 ghost use Rattle.rule_linear.specs.Tests.{IsWeighting, IsLinearOf, LinearLeavesOf};
@@ -13,7 +13,7 @@ use crate::bound::{Weights, are_weights, total_part};
 use crate::form::Part;
 use crate::steps::add_up;
 use int_ranges::exact::Wide;
-use term_bank::bank::Bank;
+use term_graph::graph::Graph;
 use terms::numbers::Numbers;
 use terms::sort::Sort;
 use terms::term::Literal;
@@ -37,7 +37,7 @@ impl<'a> Rule for Linear<'a> {
 
     fn concludes(
         &self,
-        terms: &Bank,
+        terms: &Graph,
         _earlier: &Clauses,
         _below: usize,
         detail: &Numbers,
@@ -60,11 +60,11 @@ impl<'a> Rule for Linear<'a> {
 /// # Errors
 /// The operands of the first number on the way that leaves 128 bits.
 #[tactic(auto, using(crate::proofs::Rows::lengths, crate::proofs::Rows::whole_known, crate::proofs::Rows::no_linear, crate::proofs::Rows::no_leaves, crate::proofs::Rows::none_leaves))]
-fn is_linear(terms: &Bank, weights: Weights<'_>) -> Result<bool, Wide>
-    requires { IsWithin (length terms.now.terms) weights.literals.now }
-    ensures rows { IfOk result (λ yes. IsTrue yes ↔ IsLinearOf weights.entry terms.now.terms) }
-    ensures exact { IfOk result (λ yes. (w : Wide) → LinearLeavesOf weights.entry terms.now.terms w → ⊥) }
-    ensures wide { IfErr result (LinearLeavesOf weights.entry terms.now.terms) }
+fn is_linear(terms: &Graph, weights: Weights<'_>) -> Result<bool, Wide>
+    requires { IsWithin (length terms.now) weights.literals.now }
+    ensures rows { IfOk result (λ yes. IsTrue yes ↔ IsLinearOf weights.entry terms.now) }
+    ensures exact { IfOk result (λ yes. (w : Wide) → LinearLeavesOf weights.entry terms.now w → ⊥) }
+    ensures wide { IfErr result (LinearLeavesOf weights.entry terms.now) }
 {
     if !are_weights(terms, weights) {
         return Ok(false);
@@ -75,11 +75,11 @@ fn is_linear(terms: &Bank, weights: Weights<'_>) -> Result<bool, Wide>
 
 /// Whether the sum of the multiples is a positive number.
 #[tactic(auto, using(crate::proofs::Rows::lengths, crate::proofs::Rows::unlike_units, crate::proofs::Rows::like_units))]
-fn is_positive_number(terms: &Bank, weights: Weights<'_>) -> bool
-    requires weighting { IsWeighting weights terms.now.terms }
-    requires reach { Reach (length terms.now.terms) weights (length weights.literals.now) }
-    requires known { IsTotalKnown weights terms.now.terms (length weights.literals.now) }
-    ensures { IsTrue result ↔ IsLinearOf weights.entry terms.now.terms }
+fn is_positive_number(terms: &Graph, weights: Weights<'_>) -> bool
+    requires weighting { IsWeighting weights terms.now }
+    requires reach { Reach (length terms.now) weights (length weights.literals.now) }
+    requires known { IsTotalKnown weights terms.now (length weights.literals.now) }
+    ensures { IsTrue result ↔ IsLinearOf weights.entry terms.now }
 {
     let end = weights.literals.len();
     let nothing = Target {

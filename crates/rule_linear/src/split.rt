@@ -1,13 +1,14 @@
 //! Two comparisons make an equality: `split`.
 
 ghost use Rattle.std.specs.Prelude.{◌↔◌, ◌∷◌, [], IsTrue, MatchOption};
+ghost use Rattle.vcc_rules.specs.Law.{AreSortsOf};
 ghost use Rattle.rule_linear.specs.Comparisons.{IsComparison, NamesNone};
-ghost use Rattle.rule_linear.specs.Rows.{AreSortsOf, IsSplit};
+ghost use Rattle.rule_linear.specs.Rows.{IsSplit};
 ghost use Rattle.rule_linear.specs.SplitSound.{split_sound};
 
 use crate::bound::is_int_term;
 use int_ranges::exact::Wide;
-use term_bank::bank::Bank;
+use term_graph::graph::Graph;
 use terms::numbers::{Numbers, index_below};
 use terms::sort::Sort;
 use terms::term::{Kind, Literal};
@@ -33,7 +34,7 @@ impl<'a> Rule for Split<'a> {
 
     fn concludes(
         &self,
-        terms: &Bank,
+        terms: &Graph,
         _earlier: &Clauses,
         _below: usize,
         detail: &Numbers,
@@ -58,8 +59,8 @@ pub struct Comparison {
 }
 
 /// The comparison that a step's number names.
-fn comparison_at(terms: &Bank, number: i128) -> Option<Comparison>
-    ensures { MatchOption result (NamesNone terms.now.terms number) (λ c. IsComparison terms.now.terms number c) }
+fn comparison_at(terms: &Graph, number: i128) -> Option<Comparison>
+    ensures { MatchOption result (NamesNone terms.now number) (λ c. IsComparison terms.now number c) }
 {
     let term = index_below(number, terms.len())? as u32;
     let node = terms.node(term);
@@ -74,14 +75,14 @@ fn comparison_at(terms: &Bank, number: i128) -> Option<Comparison>
 }
 
 fn is_split(
-    terms: &Bank,
+    terms: &Graph,
     sorts: &[Option<Sort>],
     t: i128,
     u: i128,
     v: i128,
     clause: &[Literal],
 ) -> bool
-    ensures { IsTrue result ↔ IsSplit sorts.now terms.now.terms (t ∷ u ∷ v ∷ []) clause.now }
+    ensures { IsTrue result ↔ IsSplit sorts.now terms.now (t ∷ u ∷ v ∷ []) clause.now }
 {
     match (
         equality_at(terms, t),

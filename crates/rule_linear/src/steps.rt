@@ -13,7 +13,7 @@ ghost use Rattle.rule_linear.specs.Walks.{IsTotalKnown, units_of_two, more_steps
 use crate::bound::{Bound, Weights, bound_for, bound_part, total_part};
 use crate::form::{Part, Shape, part_at, shape_at, wrapped_difference, wrapped_product};
 use int_ranges::exact::{Wide, add_exact, mul_exact, sub_exact};
-use term_bank::bank::Bank;
+use term_graph::graph::Graph;
 
 /// What is worked out at each part.
 #[derive(Clone, Copy, Debug)]
@@ -63,10 +63,10 @@ fn mul_fits(x: i128, y: i128) -> Result<(), Wide>
 ///
 /// # Errors
 /// The operands, where the result doesn't fit.
-fn combine(terms: &Bank, shape: Shape, part: Part) -> Result<(), Wide>
-    requires below { IsBelow (length terms.now.terms) shape }
-    requires exact { IsExact (step_at (of_shape (sum_at terms.now.terms) 0 shape) part) }
-    ensures { Meets (step_at (of_shape (sum_at terms.now.terms) 0 shape) part ∷ []) result }
+fn combine(terms: &Graph, shape: Shape, part: Part) -> Result<(), Wide>
+    requires below { IsBelow (length terms.now) shape }
+    requires exact { IsExact (step_at (of_shape (sum_at terms.now) 0 shape) part) }
+    ensures { Meets (step_at (of_shape (sum_at terms.now) 0 shape) part ∷ []) result }
 {
     match shape {
         Shape::Plus(a, b) => add_fits(part_at(terms, a, part), part_at(terms, b, part)),
@@ -82,16 +82,16 @@ fn combine(terms: &Bank, shape: Shape, part: Part) -> Result<(), Wide>
 /// # Errors
 /// The operands, where the result doesn't fit.
 fn take_step(
-    terms: &Bank,
+    terms: &Graph,
     weights: Weights<'_>,
     end: usize,
     job: Job,
     part: Part,
 ) -> Result<(), Wide>
-    requires reach { Reach (length terms.now.terms) weights end }
-    requires names { IsJobWithin (length terms.now.terms) job }
-    requires exact { IsExact (job_step weights terms.now.terms end job part) }
-    ensures { Meets (job_step weights.entry terms.now.terms end job part ∷ []) result }
+    requires reach { Reach (length terms.now) weights end }
+    requires names { IsJobWithin (length terms.now) job }
+    requires exact { IsExact (job_step weights terms.now end job part) }
+    ensures { Meets (job_step weights.entry terms.now end job part ∷ []) result }
 {
     match job {
         Job::Combine(shape) => combine(terms, shape, part),
@@ -110,12 +110,12 @@ fn take_step(
 /// # Errors
 /// The operands of the first result that doesn't fit.
 #[tactic(auto, using(crate::proofs::InOrder::left_leaves, crate::proofs::InOrder::right_meets, crate::proofs::InOrder::left_leaves_minus, crate::proofs::InOrder::right_meets_minus))]
-fn walk(terms: &Bank, weights: Weights<'_>, end: usize, job: Job, t: u32) -> Result<(), Wide>
-    requires term { t < length terms.now.terms }
-    requires reach { Reach (length terms.now.terms) weights end }
-    requires names { IsJobWithin (length terms.now.terms) job }
-    requires exact { AreExact weights terms.now.terms end job }
-    ensures { Meets (unit_steps weights.entry terms.now.terms end job (units (sum_at terms.now.terms t))) result }
+fn walk(terms: &Graph, weights: Weights<'_>, end: usize, job: Job, t: u32) -> Result<(), Wide>
+    requires term { t < length terms.now }
+    requires reach { Reach (length terms.now) weights end }
+    requires names { IsJobWithin (length terms.now) job }
+    requires exact { AreExact weights terms.now end job }
+    ensures { Meets (unit_steps weights.entry terms.now end job (units (sum_at terms.now t))) result }
 {
     match shape_at(terms, t) {
         Shape::Number(_) => Ok(()),
@@ -138,19 +138,19 @@ fn walk(terms: &Bank, weights: Weights<'_>, end: usize, job: Job, t: u32) -> Res
 /// The operands of the first result that doesn't fit.
 #[tactic(auto, using(crate::proofs::InOrder::first_units_leave, crate::proofs::InOrder::second_units_leave, crate::proofs::InOrder::both_constant_meets))]
 fn walk_two(
-    terms: &Bank,
+    terms: &Graph,
     weights: Weights<'_>,
     end: usize,
     job: Job,
     a: u32,
     b: u32,
 ) -> Result<(), Wide>
-    requires left { a < length terms.now.terms }
-    requires right { b < length terms.now.terms }
-    requires reach { Reach (length terms.now.terms) weights end }
-    requires names { IsJobWithin (length terms.now.terms) job }
-    requires exact { AreExact weights terms.now.terms end job }
-    ensures { Meets (part_steps weights.entry terms.now.terms end job (units_of_two terms.now.terms a b)) result }
+    requires left { a < length terms.now }
+    requires right { b < length terms.now }
+    requires reach { Reach (length terms.now) weights end }
+    requires names { IsJobWithin (length terms.now) job }
+    requires exact { AreExact weights terms.now end job }
+    ensures { Meets (part_steps weights.entry terms.now end job (units_of_two terms.now a b)) result }
 {
     walk(terms, weights, end, job, a)?;
     walk(terms, weights, end, job, b)?;
@@ -162,12 +162,12 @@ fn walk_two(
 /// # Errors
 /// The operands of the first result that doesn't fit.
 #[tactic(auto, using(crate::proofs::InOrder::units_leave, crate::proofs::InOrder::constant_meets))]
-fn walk_one(terms: &Bank, weights: Weights<'_>, end: usize, job: Job, a: u32) -> Result<(), Wide>
-    requires term { a < length terms.now.terms }
-    requires reach { Reach (length terms.now.terms) weights end }
-    requires names { IsJobWithin (length terms.now.terms) job }
-    requires exact { AreExact weights terms.now.terms end job }
-    ensures { Meets (part_steps weights.entry terms.now.terms end job (units (sum_at terms.now.terms a))) result }
+fn walk_one(terms: &Graph, weights: Weights<'_>, end: usize, job: Job, a: u32) -> Result<(), Wide>
+    requires term { a < length terms.now }
+    requires reach { Reach (length terms.now) weights end }
+    requires names { IsJobWithin (length terms.now) job }
+    requires exact { AreExact weights terms.now end job }
+    ensures { Meets (part_steps weights.entry terms.now end job (units (sum_at terms.now a))) result }
 {
     walk(terms, weights, end, job, a)?;
     take_step(terms, weights, end, job, Part::Constant)
@@ -179,14 +179,14 @@ fn walk_one(terms: &Bank, weights: Weights<'_>, end: usize, job: Job, a: u32) ->
 /// # Errors
 /// The operands of the first result that doesn't fit.
 #[tactic(auto, using(crate::proofs::Known::after_meets))]
-fn combine_two(terms: &Bank, weights: Weights<'_>, job: Job, a: u32, b: u32) -> Result<(), Wide>
-    requires left { a < length terms.now.terms }
-    requires right { b < length terms.now.terms }
-    requires reach { Reach (length terms.now.terms) weights 0 }
-    requires names { IsJobWithin (length terms.now.terms) job }
-    requires exact { AreExact weights terms.now.terms 0 job }
-    requires elsewhere { FitElsewhere weights terms.now.terms job b }
-    ensures { Meets (part_steps weights.entry terms.now.terms 0 job (units_of_two terms.now.terms a b)) result }
+fn combine_two(terms: &Graph, weights: Weights<'_>, job: Job, a: u32, b: u32) -> Result<(), Wide>
+    requires left { a < length terms.now }
+    requires right { b < length terms.now }
+    requires reach { Reach (length terms.now) weights 0 }
+    requires names { IsJobWithin (length terms.now) job }
+    requires exact { AreExact weights terms.now 0 job }
+    requires elsewhere { FitElsewhere weights terms.now job b }
+    ensures { Meets (part_steps weights.entry terms.now 0 job (units_of_two terms.now a b)) result }
 {
     match walk(terms, weights, 0, job, b) {
         Ok(()) => take_step(terms, weights, 0, job, Part::Constant),
@@ -199,11 +199,11 @@ fn combine_two(terms: &Bank, weights: Weights<'_>, job: Job, a: u32, b: u32) -> 
 /// # Errors
 /// The operands of the first result that doesn't fit.
 #[tactic(auto, using(crate::proofs::Known::number_known, crate::proofs::Known::single_known, crate::proofs::Known::plus_known, crate::proofs::Known::minus_known, crate::proofs::Known::times_known, crate::proofs::Known::plus_left, crate::proofs::Known::plus_right, crate::proofs::Known::plus_whole, crate::proofs::Known::minus_left, crate::proofs::Known::minus_right, crate::proofs::Known::minus_whole, crate::proofs::Known::times_left, crate::proofs::Known::times_whole, crate::proofs::Known::plus_elsewhere, crate::proofs::Known::minus_elsewhere))]
-fn form(terms: &Bank, weights: Weights<'_>, t: u32) -> Result<(), Wide>
-    requires term { t < length terms.now.terms }
-    requires within { IsWithin (length terms.now.terms) weights.literals.now }
-    ensures known { IfOk result (λ done. IsKnown (sum_at terms.now.terms t)) }
-    ensures wide { IfErr result (FirstLeaves (steps (sum_at terms.now.terms t))) }
+fn form(terms: &Graph, weights: Weights<'_>, t: u32) -> Result<(), Wide>
+    requires term { t < length terms.now }
+    requires within { IsWithin (length terms.now) weights.literals.now }
+    ensures known { IfOk result (λ done. IsKnown (sum_at terms.now t)) }
+    ensures wide { IfErr result (FirstLeaves (steps (sum_at terms.now t))) }
 {
     match shape_at(terms, t) {
         Shape::Number(_) => Ok(()),
@@ -233,10 +233,10 @@ fn form(terms: &Bank, weights: Weights<'_>, t: u32) -> Result<(), Wide>
 /// # Errors
 /// The operands, where the result doesn't fit.
 #[tactic(auto, using(crate::proofs::Adding::none_meets))]
-fn add_one(terms: &Bank, b: Bound) -> Result<(), Wide>
-    requires sides { AreWithin (length terms.now.terms) b }
-    requires known { IsKnown (difference terms.now.terms b) }
-    ensures { Meets (one_step b.strict (number_of (difference terms.now.terms b) Constant)) result }
+fn add_one(terms: &Graph, b: Bound) -> Result<(), Wide>
+    requires sides { AreWithin (length terms.now) b }
+    requires known { IsKnown (difference terms.now b) }
+    ensures { Meets (one_step b.strict (number_of (difference terms.now b) Constant)) result }
 {
     if b.strict {
         let left = part_at(terms, b.left, Part::Constant);
@@ -253,11 +253,11 @@ fn add_one(terms: &Bank, b: Bound) -> Result<(), Wide>
 /// # Errors
 /// The operands of the first result that doesn't fit.
 #[tactic(auto, using(crate::proofs::Adding::difference_known, crate::proofs::Adding::bound_known, crate::proofs::Adding::bound_left, crate::proofs::Adding::bound_right, crate::proofs::Adding::bound_whole, crate::proofs::Adding::bound_one, crate::proofs::Known::minus_elsewhere))]
-pub fn bound_form(terms: &Bank, weights: Weights<'_>, b: Bound) -> Result<(), Wide>
-    requires sides { AreWithin (length terms.now.terms) b }
-    requires within { IsWithin (length terms.now.terms) weights.literals.now }
-    ensures known { IfOk result (λ done. IsBoundKnown terms.now.terms b) }
-    ensures wide { IfErr result (FirstLeaves (bound_steps terms.now.terms b)) }
+pub fn bound_form(terms: &Graph, weights: Weights<'_>, b: Bound) -> Result<(), Wide>
+    requires sides { AreWithin (length terms.now) b }
+    requires within { IsWithin (length terms.now) weights.literals.now }
+    ensures known { IfOk result (λ done. IsBoundKnown terms.now b) }
+    ensures wide { IfErr result (FirstLeaves (bound_steps terms.now b)) }
 {
     form(terms, weights, b.left)?;
     form(terms, weights, b.right)?;
@@ -277,12 +277,12 @@ pub fn bound_form(terms: &Bank, weights: Weights<'_>, b: Bound) -> Result<(), Wi
 /// # Errors
 /// The operands of the first result that doesn't fit.
 #[tactic(auto, using(crate::proofs::Adding::products_known, crate::proofs::Adding::sums_known, crate::proofs::InOrder::fit_both, crate::proofs::InOrder::leaves_first, crate::proofs::InOrder::leaves_second))]
-fn add_bound(terms: &Bank, weights: Weights<'_>, end: usize, m: i128, b: Bound) -> Result<(), Wide>
-    requires sides { AreWithin (length terms.now.terms) b }
-    requires reach { Reach (length terms.now.terms) weights end }
-    requires known { IsTotalKnown weights terms.now.terms end }
-    ensures fit { IfOk result (λ done. IsMoreKnown weights.entry terms.now.terms end m b) }
-    ensures wide { IfErr result (FirstLeaves (more_steps weights.entry terms.now.terms end m b)) }
+fn add_bound(terms: &Graph, weights: Weights<'_>, end: usize, m: i128, b: Bound) -> Result<(), Wide>
+    requires sides { AreWithin (length terms.now) b }
+    requires reach { Reach (length terms.now) weights end }
+    requires known { IsTotalKnown weights terms.now end }
+    ensures fit { IfOk result (λ done. IsMoreKnown weights.entry terms.now end m b) }
+    ensures wide { IfErr result (FirstLeaves (more_steps weights.entry terms.now end m b)) }
 {
     bound_form(terms, weights, b)?;
     walk_two(terms, weights, end, Job::Multiply(m, b), b.left, b.right)?;
@@ -295,11 +295,11 @@ fn add_bound(terms: &Bank, weights: Weights<'_>, end: usize, m: i128, b: Bound) 
 /// # Errors
 /// The operands of the first result that doesn't fit.
 #[tactic(auto, using(crate::proofs::Places::next_some, crate::proofs::Places::next_none, crate::proofs::Places::leaves_some))]
-fn add_literal(terms: &Bank, weights: Weights<'_>, i: usize) -> Result<(), Wide>
-    requires reach { Reach (length terms.now.terms) weights (i + 1) }
-    requires known { IsTotalKnown weights terms.now.terms i }
-    ensures known { IfOk result (λ done. IsNextKnown weights.entry terms.now.terms i) }
-    ensures wide { IfErr result (FirstLeaves (literal_steps weights.entry terms.now.terms i)) }
+fn add_literal(terms: &Graph, weights: Weights<'_>, i: usize) -> Result<(), Wide>
+    requires reach { Reach (length terms.now) weights (i + 1) }
+    requires known { IsTotalKnown weights terms.now i }
+    ensures known { IfOk result (λ done. IsNextKnown weights.entry terms.now i) }
+    ensures wide { IfErr result (FirstLeaves (literal_steps weights.entry terms.now i)) }
 {
     match bound_for(terms, weights.sorts, weights.literals[i]) {
         Some(b) => add_bound(terms, weights, i, weights.multipliers[i], b),
@@ -312,11 +312,11 @@ fn add_literal(terms: &Bank, weights: Weights<'_>, i: usize) -> Result<(), Wide>
 /// # Errors
 /// The operands of the first result that doesn't fit.
 #[tactic(auto, using(crate::proofs::Places::none_known, crate::proofs::Places::start_known, crate::proofs::Places::next_leaves, crate::proofs::Places::next_known, crate::proofs::Places::all_known))]
-pub fn add_up(terms: &Bank, weights: Weights<'_>) -> Result<(), Wide>
-    requires within { IsWithin (length terms.now.terms) weights.literals.now }
+pub fn add_up(terms: &Graph, weights: Weights<'_>) -> Result<(), Wide>
+    requires within { IsWithin (length terms.now) weights.literals.now }
     requires lengths { length weights.multipliers.now ≡ length weights.literals.now }
-    ensures known { IfOk result (λ done. IsAllKnown weights.entry terms.now.terms) }
-    ensures wide { IfErr result (FirstLeaves (all_steps weights.entry terms.now.terms)) }
+    ensures known { IfOk result (λ done. IsAllKnown weights.entry terms.now) }
+    ensures wide { IfErr result (FirstLeaves (all_steps weights.entry terms.now)) }
 {
     for i in 0..weights.literals.len() {
         add_literal(terms, weights, i)?;

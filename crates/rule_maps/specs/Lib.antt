@@ -1,4 +1,5 @@
 pub mod Rows
 pub mod Readings
 pub mod Places
+pub mod SortedTerms
 pub mod Sound

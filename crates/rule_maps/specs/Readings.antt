@@ -1,7 +1,8 @@
 -- What the code reads of an equality whose left side reads a heap in which a value was stored.
-use Rattle.std.specs.Prelude.{◌≡◌, ◌+◌, ◌<◌, ◌≤◌, ◌-◌, ℕ, ℤ, pos, List, [], ◌∷◌, Some, slice_get}
+use Rattle.std.specs.Prelude.{◌≡◌, ◌+◌, ◌<◌, ◌≤◌, ◌-◌, ℕ, ℤ, pos, List, [], ◌∷◌, Option, Some, slice_get}
 use Rattle.terms.specs.declared.term.Term.{Term}
 use Rattle.terms.specs.declared.term.Literal.{Literal}
+use Rattle.terms.specs.declared.sort.Sort.{Sort}
 use Rattle.vcc_rules.specs.declared.equality.Equality.{Equality}
 use Rattle.vcc_rules.specs.Rows.{yes}
 use Rattle.rule_maps.specs.declared.reading.Store.{Store}
@@ -17,13 +18,13 @@ abbrev pub IsNoStore : List Term → ℕ → Type 0
 IsNoStore terms t = (C : ℤ) (h : ℕ) (K : List ℕ) (v : ℕ) → IsStore terms t C h K v → ⊥
 
 -- the number names a term that is this reading
-pub record IsReading (terms : List Term) (number : ℤ) (r : Reading) : Type 0 where
+pub record IsReading (sorts : List (Option Sort)) (terms : List Term) (number : ℤ) (r : Reading) : Type 0 where
   pub named : number ≡ pos r.term
-  pub reads : IsReadOfStore terms r.term r.column r.keys.now r.store.column r.store.heap r.store.keys.now r.store.value r.other
+  pub reads : IsReadOfStore sorts terms r.term r.column r.keys.now r.store.column r.store.heap r.store.keys.now r.store.value r.other
 
 -- the number names no such term
-abbrev pub IsNoReading : List Term → ℤ → Type 0
-IsNoReading terms number = (t : ℕ) (C : ℤ) (L : List ℕ) (D : ℤ) (h : ℕ) (K : List ℕ) (v x : ℕ) → number ≡ pos t → IsReadOfStore terms t C L D h K v x → ⊥
+abbrev pub IsNoReading : List (Option Sort) → List Term → ℤ → Type 0
+IsNoReading sorts terms number = (t : ℕ) (C : ℤ) (L : List ℕ) (D : ℤ) (h : ℕ) (K : List ℕ) (v x : ℕ) → number ≡ pos t → IsReadOfStore sorts terms t C L D h K v x → ⊥
 
 -- the right side reads the heap from before the store, in the same column and at the same keys
 pub record IsUnchanged (terms : List Term) (r : Reading) : Type 0 where

@@ -1,8 +1,6 @@
 -- The rows of `map` give consequences.
-use Rattle.std.proofs.Common.{◌≡◌, inl, inr, ◌<◌, ◌-◌, ◌++◌, ℕ, zero, suc, ℤ, Bool, true, false, ◌||◌, List, [], ◌∷◌, map, All, Option, Some, None, slice_get, option_and_then, option_map, refl, ap, sym, ◌∙◌, subst, arith}
-use Rattle.std.proofs.lemmas.Option.{slice_get_within}
+use Rattle.std.proofs.Common.{◌≡◌, inl, inr, ◌-◌, ◌++◌, ℕ, zero, suc, ℤ, Bool, true, false, ◌||◌, List, [], ◌∷◌, map, Option, Some, None, slice_get, option_and_then, option_map, refl, ap, sym, ◌∙◌, subst}
 use Rattle.std.proofs.lemmas.List.{map-append}
-use Rattle.std.proofs.lemmas.List.Elements.{All-head, All-tail, All-nil, All-cons}
 use Rattle.method.specs.declared.program.Program.{Program}
 use Rattle.terms.specs.declared.term.Term.{Term}
 use Rattle.terms.specs.declared.term.Literal.{Literal}
@@ -10,20 +8,19 @@ use Rattle.terms.specs.declared.term.Kind.TheVariants as k
 use Rattle.terms.specs.declared.sort.Sort.{Sort}
 use Rattle.terms.specs.declared.sort.Sort.TheVariants as s
 use Rattle.terms.specs.declared.sort.Column.{Column as Sorted}
-use Rattle.terms.specs.Sorts.{when, same_sorts}
+use Rattle.terms.specs.Sorts.{when, same_sorts, sort_in as sort_of}
 use Rattle.terms.specs.Formula.{term}
-use Rattle.term_bank.specs.Bank.{IsBank}
-use Rattle.term_meaning.specs.Columns.{Column, sorts_of, further_keys, value_sort, term_sort}
+use Rattle.term_meaning.specs.Columns.{Column, column_sorts, sorts_of, further_keys, value_sort, term_sort}
 use Rattle.term_meaning.specs.RawHeaps.{Place, place_of, store_at}
-use Rattle.term_meaning.specs.Meaning.{Language, Env, IsEnv, Value, PlainValue, HeapValue, truth, clause_true, scalar, heap, reference, column_at, read_in, store_in, IsValuation}
-use Rattle.term_meaning.specs.ValueSorts.{HasSort, HaveSorts, AreSorts}
+use Rattle.term_meaning.specs.Meaning.{Language, Env, IsEnv, Value, PlainValue, HeapValue, truth, clause_true, scalar, heap, reference, column_at, read_in, store_in, IsValuation, quantified_sorts}
+use Rattle.term_meaning.specs.ValueSorts.{HasSort, HaveSorts}
 use Rattle.term_meaning.proofs.Sorted.{entry_at, same_sorts_are}
-use Rattle.term_meaning.proofs.Valuations.{have_sorts_below, values_sorted}
 use Rattle.axiom_instances.proofs.Invariants.{plain_one}
 use Rattle.axiom_instances.proofs.Maps.{front_of, end_of, read_there, read_elsewhere}
 use Rattle.vcc_rules.specs.EqualitySound.{says}
-use Rattle.vcc_rules.specs.Law.{IsConsequence, AreSorted, sort_at}
-use Rattle.rule_maps.specs.Rows.{IsRead, IsStore, IsReadBack, IsOtherKey, IsOtherColumn, IsMap}
+use Rattle.vcc_rules.specs.Law.{IsConsequence, AreSortsOf}
+use Rattle.rule_maps.specs.Rows.{IsRead, IsStore, IsReadOfStore, IsReadBack, IsOtherKey, IsOtherColumn, IsMap}
+use Rattle.rule_maps.specs.SortedTerms.{IsOfSomeSort, AreOfSorts, by_sorts, split_end, node_sorts, first_sorted, sides_sorted, value_sorted, all_sorted}
 use Rattle.rule_maps.specs.Places.{keys_of_place, same_reference, same_column, one_number}
 
 -- Lists with something behind.
@@ -46,9 +43,9 @@ same_ends (x ∷ xs) (y ∷ ys) a b e =
     let s = same_ends xs ys a b more in
     record { front = λ i. first i ∷ s.front i; end = s.end }
 
-all_end : (P : ℕ → Type 0) (xs : List ℕ) (a : ℕ) → All P (xs ++ a ∷ []) → P a
-all_end P [] a h = All-head P a [] h
-all_end P (x ∷ xs) a h = all_end P xs a (All-tail P x (xs ++ a ∷ []) h)
+either : (x y : Bool) → (x ≡ false → y ≡ true) → x || (y || false) ≡ true
+either true y f = refl
+either false y f = rw (f refl) refl
 
 -- What the sort of a term says of its column and its arguments.
 
@@ -103,61 +100,72 @@ record StoreValue (p : Program) (v : ℕ → Value) (t : ℕ) (D : ℤ) (h : ℕ
   held : HasSort p (term_sort (value_sort p d)) (v w)
   value : v t ≡ HeapValue (store_at (heap (v h)) (place_of d (map scalar (map v ks))) (reference (v o)) (scalar (v w)))
 
-module _ (l : Language) (e : Env) (v : ℕ → Value) (terms : List Term) (sorts : ℕ → Sort) (env : IsEnv l.program e) (bank : IsBank terms) (valued : IsValuation l e terms v) (are : AreSorts l terms sorts) where
-  p : Program
-  p = l.program
+-- what is read and what is stored, where the equality has a sort
+record ReadingValue (l : Language) (v : ℕ → Value) (terms : List Term) (read store : ℕ) (C : ℤ) (L : List ℕ) (D : ℤ) (h : ℕ) (K : List ℕ) (w x : ℕ) : Type 0 where
+  reads : ReadValue l.program v read C store L
+  stores : StoreValue l.program v store D h K w
+  other : IsOfSomeSort l terms x
 
-  sorted_below : (t : ℕ) (node : Term) → slice_get terms t ≡ Some node → (i : ℕ) → i < t → HasSort l.program (sorts i) (v i)
-  sorted_below t node g i below = values_sorted l e terms v sorts env bank valued are i (let within = slice_get_within terms t node g in omega arith)
-
-  read_keys : (C : ℤ) (h : ℕ) (t : ℕ) (L : List ℕ) → IsRead terms t C h L → ReadSorts l.program (column_at l.program C) (map sorts L) → ReadValue l.program v t C h L
-  read_keys C h t [] g r = absurd (let e = r.keys in cc)
-  read_keys C h t (o ∷ ls) g r =
-      let first : sorts o ≡ s.Ref = (let e = r.keys in cc) in
-      let further : map sorts ls ≡ further_keys l.program r.column = (let e = r.keys in cc) in
-      let below : All (λ a. a < t) (o ∷ ls) = All-tail (λ a. a < t) h (o ∷ ls) (bank.downward t (term k.Get C (h ∷ o ∷ ls)) g) in
+module _ (l : Language) (e : Env) (v : ℕ → Value) (terms : List Term) (env : IsEnv l.program e) (valued : IsValuation l e terms v) where
+  read_keys : (C : ℤ) (h : ℕ) (t : ℕ) (L : List ℕ) (ss : List Sort) → IsRead terms t C h L → AreOfSorts l terms L ss → ReadSorts l.program (column_at l.program C) ss → ReadValue l.program v t C h L
+  read_keys C h t [] [] g a r = absurd (let e = r.keys in cc)
+  read_keys C h t [] (y ∷ ys) g a r = absurd a
+  read_keys C h t (o ∷ ls) [] g a r = absurd a
+  read_keys C h t (o ∷ ls) (y ∷ ys) g a r =
+      let first : y ≡ s.Ref = (let e = r.keys in cc) in
+      let further : ys ≡ further_keys l.program r.column = (let e = r.keys in cc) in
       record {
         c = r.column;
         is = r.is;
         o = o;
         ls = ls;
         keys = refl;
-        first = subst (λ (s : Sort). HasSort l.program s (v o)) first (sorted_below t _ g o (All-head (λ a. a < t) o ls below));
-        further = subst (λ (ss : List Sort). HaveSorts l.program ss (map v ls)) further (have_sorts_below l.program sorts v t ls (All-tail (λ a. a < t) o ls below) (sorted_below t _ g));
+        first = subst (λ (s : Sort). HasSort l.program s (v o)) first (value_sorted l e v terms env valued o y a.0);
+        further = subst (λ (ss : List Sort). HaveSorts l.program ss (map v ls)) further (all_sorted l e v terms env valued ls ys a.1);
         value = valued.term t (term k.Get C (h ∷ o ∷ ls)) g ∙ ap (λ c. read_in c (v h ∷ v o ∷ map v ls)) r.is;
       }
 
-  read_value : (t : ℕ) (C : ℤ) (h : ℕ) (L : List ℕ) → IsRead terms t C h L → ReadValue l.program v t C h L
-  read_value t C h L g =
-      read_keys C h t L g (read_sorts l.program (sorts h) (map sorts L) (sorts t) (column_at l.program C) (ap (λ c. option_and_then (λ (c : Sorted). when (same_sorts (sorts h ∷ map sorts L) (s.Heap ∷ c.keys)) c.value) c) (sym (entry_at l.program C)) ∙ are t (term k.Get C (h ∷ L)) g))
+  read_by : (C : ℤ) (h : ℕ) (t : ℕ) (L : List ℕ) (y : Sort) (ss : List Sort) → IsRead terms t C h L → AreOfSorts l terms (h ∷ L) ss → sort_of k.Get C ss (column_sorts l.program) (quantified_sorts l) ≡ Some y → ReadValue l.program v t C h L
+  read_by C h t L y [] g a f = absurd a
+  read_by C h t L y (x ∷ ss) g a f =
+      read_keys C h t L ss g a.1 (read_sorts l.program x ss y (column_at l.program C) (ap (λ c. option_and_then (λ (c : Sorted). when (same_sorts (x ∷ ss) (s.Heap ∷ c.keys)) c.value) c) (sym (entry_at l.program C)) ∙ f))
 
-  store_keys : (D : ℤ) (h : ℕ) (t : ℕ) (K : List ℕ) (w : ℕ) → IsStore terms t D h K w → StoreSorts l.program (column_at l.program D) (map sorts K ++ sorts w ∷ []) → StoreValue l.program v t D h K w
-  store_keys D h t [] w g r = absurd (let e = r.keys in let f : [] ≡ further_keys l.program r.column ++ term_sort (value_sort l.program r.column) ∷ [] = cc in no_end _ _ f)
-  store_keys D h t (o ∷ ks) w g r =
-      let first : sorts o ≡ s.Ref = (let e = r.keys in cc) in
-      let more : map sorts ks ++ sorts w ∷ [] ≡ further_keys l.program r.column ++ term_sort (value_sort l.program r.column) ∷ [] = (let e = r.keys in cc) in
-      let ends = same_ends (map sorts ks) (further_keys l.program r.column) (sorts w) (term_sort (value_sort l.program r.column)) more in
-      let below : All (λ a. a < t) (o ∷ ks ++ w ∷ []) = All-tail (λ a. a < t) h (o ∷ ks ++ w ∷ []) (bank.downward t (term k.Set D (h ∷ o ∷ ks ++ w ∷ [])) g) in
-      let behind : All (λ a. a < t) (ks ++ w ∷ []) = All-tail (λ a. a < t) o (ks ++ w ∷ []) below in
+  read_value : (t : ℕ) (C : ℤ) (h : ℕ) (L : List ℕ) → IsRead terms t C h L → IsOfSomeSort l terms t → ReadValue l.program v t C h L
+  read_value t C h L g q =
+      let n = node_sorts l e v terms env valued t (term k.Get C (h ∷ L)) q.sort g q.is in
+      read_by C h t L q.sort n.args g n.are n.gives
+
+  store_keys : (D : ℤ) (h : ℕ) (t : ℕ) (K : List ℕ) (w : ℕ) (ss : List Sort) → IsStore terms t D h K w → AreOfSorts l terms (K ++ w ∷ []) ss → StoreSorts l.program (column_at l.program D) ss → StoreValue l.program v t D h K w
+  store_keys D h t [] w [] g a r = absurd a
+  store_keys D h t [] w (y ∷ []) g a r = absurd (let e = r.keys in let f : [] ≡ further_keys l.program r.column ++ term_sort (value_sort l.program r.column) ∷ [] = cc in no_end _ _ f)
+  store_keys D h t [] w (y ∷ z ∷ ys) g a r = absurd a.1
+  store_keys D h t (o ∷ ks) w [] g a r = absurd a
+  store_keys D h t (o ∷ ks) w (y ∷ ys) g a r =
+      let first : y ≡ s.Ref = (let e = r.keys in cc) in
+      let more : ys ≡ further_keys l.program r.column ++ term_sort (value_sort l.program r.column) ∷ [] = (let e = r.keys in cc) in
+      let p = split_end l terms ks w ys a.1 in
+      let ends = same_ends p.0 (further_keys l.program r.column) p.1 (term_sort (value_sort l.program r.column)) (sym p.2 ∙ more) in
       record {
         d = r.column;
         is = r.is;
         o = o;
         ks = ks;
         keys = refl;
-        first = subst (λ (s : Sort). HasSort l.program s (v o)) first (sorted_below t _ g o (All-head (λ a. a < t) o (ks ++ w ∷ []) below));
-        further = subst (λ (ss : List Sort). HaveSorts l.program ss (map v ks)) ends.front (have_sorts_below l.program sorts v t ks (front_below t ks w behind) (sorted_below t _ g));
-        held = subst (λ (s : Sort). HasSort l.program s (v w)) ends.end (sorted_below t _ g w (all_end (λ a. a < t) ks w behind));
+        first = subst (λ (s : Sort). HasSort l.program s (v o)) first (value_sorted l e v terms env valued o y a.0);
+        further = subst (λ (ss : List Sort). HaveSorts l.program ss (map v ks)) ends.front (all_sorted l e v terms env valued ks p.0 p.3);
+        held = subst (λ (s : Sort). HasSort l.program s (v w)) ends.end (value_sorted l e v terms env valued w p.1 p.4);
         value = valued.term t (term k.Set D (h ∷ o ∷ ks ++ w ∷ [])) g ∙ ap (λ c. store_in c (v h ∷ v o ∷ map v (ks ++ w ∷ []))) r.is ∙ ap (λ xs. store_in (Some r.column) (v h ∷ v o ∷ xs)) (map-append v ks (w ∷ [])) ∙ (λ i. HeapValue (store_at (heap (v h)) (place_of r.column (front_of (map v ks) (v w) i)) (reference (v o)) (end_of (map v ks) (v w) i)));
       }
-    where
-      front_below : (t : ℕ) (ks : List ℕ) (w : ℕ) → All (λ a. a < t) (ks ++ w ∷ []) → All (λ a. a < t) ks
-      front_below t [] w h = All-nil (λ a. a < t)
-      front_below t (x ∷ ks) w h = All-cons (λ a. a < t) x ks (All-head (λ a. a < t) x (ks ++ w ∷ []) h) (front_below t ks w (All-tail (λ a. a < t) x (ks ++ w ∷ []) h))
 
-  store_value : (t : ℕ) (D : ℤ) (h : ℕ) (K : List ℕ) (w : ℕ) → IsStore terms t D h K w → StoreValue l.program v t D h K w
-  store_value t D h K w g =
-      store_keys D h t K w g (subst (λ (ss : List Sort). StoreSorts l.program (column_at l.program D) ss) (map-append sorts K (w ∷ [])) (store_sorts l.program (sorts h) (map sorts (K ++ w ∷ [])) (sorts t) (column_at l.program D) (ap (λ c. option_and_then (λ (c : Sorted). when (same_sorts (sorts h ∷ map sorts (K ++ w ∷ [])) (s.Heap ∷ c.keys ++ c.value ∷ [])) s.Heap) c) (sym (entry_at l.program D)) ∙ are t (term k.Set D (h ∷ K ++ w ∷ [])) g)))
+  store_by : (D : ℤ) (h : ℕ) (t : ℕ) (K : List ℕ) (w : ℕ) (y : Sort) (ss : List Sort) → IsStore terms t D h K w → AreOfSorts l terms (h ∷ K ++ w ∷ []) ss → sort_of k.Set D ss (column_sorts l.program) (quantified_sorts l) ≡ Some y → StoreValue l.program v t D h K w
+  store_by D h t K w y [] g a f = absurd a
+  store_by D h t K w y (x ∷ ss) g a f =
+      store_keys D h t K w ss g a.1 (store_sorts l.program x ss y (column_at l.program D) (ap (λ c. option_and_then (λ (c : Sorted). when (same_sorts (x ∷ ss) (s.Heap ∷ c.keys ++ c.value ∷ [])) s.Heap) c) (sym (entry_at l.program D)) ∙ f))
+
+  store_value : (t : ℕ) (D : ℤ) (h : ℕ) (K : List ℕ) (w : ℕ) → IsStore terms t D h K w → IsOfSomeSort l terms t → StoreValue l.program v t D h K w
+  store_value t D h K w g q =
+      let n = node_sorts l e v terms env valued t (term k.Set D (h ∷ K ++ w ∷ [])) q.sort g q.is in
+      store_by D h t K w q.sort n.args g n.are n.gives
 
   -- what a store holds there
   read_of_store : (read store : ℕ) (C : ℤ) (L : List ℕ) (D : ℤ) (h : ℕ) (K : List ℕ) (w : ℕ) (r : ReadValue l.program v read C store L) (s : StoreValue l.program v store D h K w) → v read ≡ PlainValue (store_at (heap (v h)) (place_of s.d (map scalar (map v s.ks))) (reference (v s.o)) (scalar (v w)) (place_of r.c (map scalar (map v r.ls))) (reference (v r.o)))
@@ -206,42 +214,51 @@ module _ (l : Language) (e : Env) (v : ℕ → Value) (terms : List Term) (sorts
       let e : Some (v a) ≡ Some (v b) = sym (at_key K i a g) ∙ ap (λ xs. slice_get xs i) (sym same) ∙ at_key L i b h in
       cc
 
-  back_true : (numbers : List ℤ) (clause : List Literal) → IsReadBack terms numbers clause → clause_true v clause ≡ true
-  back_true numbers clause row =
-      let m = row.reads in
-      let same = back_value m.read m.store row.C row.h row.K row.v (read_value m.read row.C m.store row.K m.is_read) (store_value m.store row.C row.h row.K row.v m.is_store) in
-      let t : truth (v row.t) ≡ true = (says l e v terms row.t m.read row.v valued m.sides_are).holds same in
-      rw (row.given, t) refl
+  module _ (sorts : List (Option Sort)) (suits : AreSortsOf l terms sorts) where
+    reading_value : (t : ℕ) (C : ℤ) (L : List ℕ) (D : ℤ) (h : ℕ) (K : List ℕ) (w x : ℕ) (m : IsReadOfStore sorts terms t C L D h K w x) → ReadingValue l v terms m.read m.store C L D h K w x
+    reading_value t C L D h K w x m =
+        let both = sides_sorted l e v terms env valued t m.read x m.sides_are (by_sorts l terms sorts suits t m.sorted) in
+        record {
+          reads = read_value m.read C m.store L m.is_read both.0;
+          stores = store_value m.store D h K w m.is_store (first_sorted l e v terms env valued m.read k.Get C m.store L m.is_read both.0);
+          other = both.1;
+        }
 
-  column_true : (numbers : List ℤ) (clause : List Literal) → IsOtherColumn terms numbers clause → clause_true v clause ≡ true
-  column_true numbers clause row =
-      let m = row.reads in
-      let r = read_value m.read row.C m.store row.L m.is_read in
-      let s = store_value m.store row.D row.h row.K row.v m.is_store in
-      let apart : place_of r.c (map scalar (map v r.ls)) ≡ place_of s.d (map scalar (map v s.ks)) → reference (v r.o) ≡ reference (v s.o) → ⊥ =
-      (λ place same. row.unlike (one_number l.program row.C row.D r.c r.is (s.is ∙ ap Some (sym (same_column r.c s.d (map scalar (map v r.ls)) (map scalar (map v s.ks)) place))))) in
-      let same = kept_value m.read m.store row.x row.C row.L row.D row.h row.K row.v r s (read_value row.x row.C row.h row.L row.is_read) apart in
-      let t : truth (v row.t) ≡ true = (says l e v terms row.t m.read row.x valued m.sides_are).holds same in
-      rw (row.given, t) refl
+    back_true : (numbers : List ℤ) (clause : List Literal) → IsReadBack sorts terms numbers clause → clause_true v clause ≡ true
+    back_true numbers clause row =
+        let m = row.reads in
+        let a = reading_value row.t row.C row.K row.C row.h row.K row.v row.v m in
+        let same = back_value m.read m.store row.C row.h row.K row.v a.reads a.stores in
+        let t : truth (v row.t) ≡ true = (says l e v terms row.t m.read row.v valued m.sides_are).holds same in
+        rw (row.given, t) refl
 
-  either : (x y : Bool) → (x ≡ false → y ≡ true) → x || (y || false) ≡ true
-  either true y f = refl
-  either false y f = rw (f refl) refl
+    column_true : (numbers : List ℤ) (clause : List Literal) → IsOtherColumn sorts terms numbers clause → clause_true v clause ≡ true
+    column_true numbers clause row =
+        let m = row.reads in
+        let a = reading_value row.t row.C row.L row.D row.h row.K row.v row.x m in
+        let r = a.reads in
+        let s = a.stores in
+        let apart : place_of r.c (map scalar (map v r.ls)) ≡ place_of s.d (map scalar (map v s.ks)) → reference (v r.o) ≡ reference (v s.o) → ⊥ =
+        (λ place same. row.unlike (one_number l.program row.C row.D r.c r.is (s.is ∙ ap Some (sym (same_column r.c s.d (map scalar (map v r.ls)) (map scalar (map v s.ks)) place))))) in
+        let same = kept_value m.read m.store row.x row.C row.L row.D row.h row.K row.v r s (read_value row.x row.C row.h row.L row.is_read a.other) apart in
+        let t : truth (v row.t) ≡ true = (says l e v terms row.t m.read row.x valued m.sides_are).holds same in
+        rw (row.given, t) refl
 
-  key_true : (numbers : List ℤ) (clause : List Literal) → IsOtherKey terms numbers clause → clause_true v clause ≡ true
-  key_true numbers clause row =
-      let m = row.reads in
-      let r = read_value m.read row.C m.store row.L m.is_read in
-      let s = store_value m.store row.C row.h row.K row.v m.is_store in
-      let u = says l e v terms row.u row.a row.b valued row.keys_equal in
-      let unchanged : truth (v row.u) ≡ false → truth (v row.t) ≡ true =
-      (λ differ. (says l e v terms row.t m.read row.x valued m.sides_are).holds (kept_value m.read m.store row.x row.C row.L row.C row.h row.K row.v r s (read_value row.x row.C row.h row.L row.is_read) (λ place same. absurd (let f : truth (v row.u) ≡ true = u.holds (same_key row.L row.K (row.i - 1) row.a row.b (one_place row.C m.read m.store row.h row.L row.K row.v r s place same) row.stored_key row.read_key) in cc)))) in
-      rw row.given (either (truth (v row.u)) (truth (v row.t)) unchanged)
+    key_true : (numbers : List ℤ) (clause : List Literal) → IsOtherKey sorts terms numbers clause → clause_true v clause ≡ true
+    key_true numbers clause row =
+        let m = row.reads in
+        let a = reading_value row.t row.C row.L row.C row.h row.K row.v row.x m in
+        let r = a.reads in
+        let s = a.stores in
+        let u = says l e v terms row.u row.a row.b valued row.keys_equal in
+        let unchanged : truth (v row.u) ≡ false → truth (v row.t) ≡ true =
+        (λ differ. (says l e v terms row.t m.read row.x valued m.sides_are).holds (kept_value m.read m.store row.x row.C row.L row.C row.h row.K row.v r s (read_value row.x row.C row.h row.L row.is_read a.other) (λ place same. absurd (let f : truth (v row.u) ≡ true = u.holds (same_key row.L row.K (row.i - 1) row.a row.b (one_place row.C m.read m.store row.h row.L row.K row.v r s place same) row.stored_key row.read_key) in cc)))) in
+        rw row.given (either (truth (v row.u)) (truth (v row.t)) unchanged)
 
-pub map_sound : (language : Language) (terms : List Term) (sorts : List Sort) → AreSorted language terms sorts → (root : Option ℕ) (clauses : List (List Literal)) (below : ℕ) (numbers : List ℤ) (clause : List Literal) → IsMap terms numbers clause → IsConsequence language terms root clauses below clause
-map_sound language terms sorts are root clauses below numbers clause row e v env valued hold =
+pub map_sound : (language : Language) (sorts : List (Option Sort)) (terms : List Term) → AreSortsOf language terms sorts → (root : Option ℕ) (clauses : List (List Literal)) (below : ℕ) (numbers : List ℤ) (clause : List Literal) → IsMap sorts terms numbers clause → IsConsequence language terms root clauses below clause
+map_sound language sorts terms suits root clauses below numbers clause row e v env valued hold =
     elim row [
-      | inl r ↦ back_true language e v terms (sort_at sorts) env are.bank valued are.each numbers clause r
-      | inr (inl r) ↦ key_true language e v terms (sort_at sorts) env are.bank valued are.each numbers clause r
-      | inr (inr r) ↦ column_true language e v terms (sort_at sorts) env are.bank valued are.each numbers clause r
+      | inl r ↦ back_true language e v terms env valued sorts suits numbers clause r
+      | inr (inl r) ↦ key_true language e v terms env valued sorts suits numbers clause r
+      | inr (inr r) ↦ column_true language e v terms env valued sorts suits numbers clause r
     ]

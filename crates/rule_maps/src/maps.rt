@@ -1,16 +1,16 @@
 //! What is read of a heap in which a value was stored: `map`.
 
-ghost use Rattle.std.specs.Prelude.{◌≡◌, ◌↔◌, ◌+◌, ◌<◌, ◌∷◌, [], List, IsTrue, MatchOption, pos, length};
-ghost use Rattle.terms.specs.declared.sort.Sort.{Sort};
-ghost use Rattle.vcc_rules.specs.Law.{AreSorted};
+ghost use Rattle.std.specs.Prelude.{◌≡◌, ◌↔◌, ◌+◌, ◌<◌, ◌∷◌, [], IsTrue, MatchOption, pos, length};
+ghost use Rattle.vcc_rules.specs.Law.{AreSortsOf};
 ghost use Rattle.rule_maps.specs.Readings.{IsKey, IsNoIndex, ReadsBack, ReadsElsewhere, ReadsColumn};
 ghost use Rattle.rule_maps.specs.Rows.{IsReadBack, IsOtherKey, IsOtherColumn, IsMap};
 ghost use Rattle.rule_maps.specs.Sound.{map_sound};
 
 use crate::reading::{Reading, is_unchanged, reading_at};
 use int_ranges::exact::Wide;
-use term_bank::bank::Bank;
+use term_graph::graph::Graph;
 use terms::numbers::{Numbers, index_below};
+use terms::sort::Sort;
 use terms::term::Literal;
 use vcc_rules::equality::{Equality, equality_at};
 use vcc_rules::propositional::{is_one, is_pair, yes};
@@ -18,20 +18,24 @@ use vcc_rules::rule::{Clauses, Rule, Scratch};
 
 /// What was stored in a heap is read at its place, and all else is as it was. It takes the number of the row and that
 /// of the equality; of row 2 the key's number, from 1, before it, and behind it that of the equality of the keys.
-pub struct Maps;
+#[derive(Clone, Copy, Debug)]
+pub struct Maps<'a> {
+    /// The sorts of the terms, as far as they have one.
+    pub sorts: &'a [Option<Sort>],
+}
 
-impl Rule for Maps {
+impl<'a> Rule for Maps<'a> {
     type Data = Numbers;
 
-    ghost suits = { λ rule language terms. (sorts : List Sort) × AreSorted language terms sorts };
+    ghost suits = { λ rule language terms. AreSortsOf language terms rule.sorts.now };
 
-    ghost gives = { λ rule terms earlier below detail clause. IsMap terms detail clause };
+    ghost gives = { λ rule terms earlier below detail clause. IsMap rule.sorts.now terms detail clause };
 
     ghost leaves = { λ rule terms detail clause w. ⊥ };
 
     fn concludes(
         &self,
-        terms: &Bank,
+        terms: &Graph,
         _earlier: &Clauses,
         _below: usize,
         detail: &Numbers,
@@ -39,21 +43,21 @@ impl Rule for Maps {
         _scratch: &mut Scratch,
     ) -> Result<bool, Wide> {
         Ok(match detail.as_slice() {
-            [1, t] => is_read_back(terms, *t, clause),
-            [2, key, t, u] => is_other_key(terms, *key, *t, *u, clause),
-            [3, t] => is_other_column(terms, *t, clause),
+            [1, t] => is_read_back(self.sorts, terms, *t, clause),
+            [2, key, t, u] => is_other_key(self.sorts, terms, *key, *t, *u, clause),
+            [3, t] => is_other_column(self.sorts, terms, *t, clause),
             _ => false,
         })
     }
 
-    ghost sound = { λ rule language terms earlier below detail clause suits. map_sound language terms suits.0 suits.1 earlier.root earlier.list.items below detail clause };
+    ghost sound = { λ rule language terms earlier below detail clause suits. map_sound language rule.sorts.now terms suits earlier.root earlier.list.items below detail clause };
 }
 
 #[tactic(auto, using(crate::proofs::Readings::back_row))]
-fn is_read_back(terms: &Bank, t: i128, clause: &[Literal]) -> bool
-    ensures { IsTrue result ↔ IsReadBack terms.now.terms (pos 1 ∷ t ∷ []) clause.now }
+fn is_read_back(sorts: &[Option<Sort>], terms: &Graph, t: i128, clause: &[Literal]) -> bool
+    ensures { IsTrue result ↔ IsReadBack sorts.now terms.now (pos 1 ∷ t ∷ []) clause.now }
 {
-    match reading_at(terms, t) {
+    match reading_at(sorts, terms, t) {
         Some(r) => reads_back(r, clause),
         None => false,
     }
@@ -70,19 +74,32 @@ fn reads_back(r: Reading<'_>, clause: &[Literal]) -> bool
 }
 
 #[tactic(auto, using(crate::proofs::Readings::elsewhere_row, crate::proofs::Readings::no_equality))]
-fn is_other_key(terms: &Bank, key: i128, t: i128, u: i128, clause: &[Literal]) -> bool
-    ensures { IsTrue result ↔ IsOtherKey terms.now.terms (pos 2 ∷ key ∷ t ∷ u ∷ []) clause.now }
+fn is_other_key(
+    sorts: &[Option<Sort>],
+    terms: &Graph,
+    key: i128,
+    t: i128,
+    u: i128,
+    clause: &[Literal],
+) -> bool
+    ensures { IsTrue result ↔ IsOtherKey sorts.now terms.now (pos 2 ∷ key ∷ t ∷ u ∷ []) clause.now }
 {
-    match (reading_at(terms, t), equality_at(terms, u)) {
+    match (reading_at(sorts, terms, t), equality_at(terms, u)) {
         (Some(r), Some(e)) => reads_elsewhere(terms, key, r, e, clause),
         _ => false,
     }
 }
 
 /// Whether the clause says that nothing changed, or that the keys with this number are equal.
-fn reads_elsewhere(terms: &Bank, key: i128, r: Reading<'_>, e: Equality, clause: &[Literal]) -> bool
-    requires { r.other < length terms.now.terms }
-    ensures { IsTrue result ↔ ReadsElsewhere terms.now.terms key r.entry e clause.now }
+fn reads_elsewhere(
+    terms: &Graph,
+    key: i128,
+    r: Reading<'_>,
+    e: Equality,
+    clause: &[Literal],
+) -> bool
+    requires { r.other < length terms.now }
+    ensures { IsTrue result ↔ ReadsElsewhere terms.now key r.entry e clause.now }
 {
     r.column == r.store.column
         && is_unchanged(terms, r)
@@ -110,19 +127,19 @@ fn index_of(number: i128, count: usize) -> Option<usize>
 }
 
 #[tactic(auto, using(crate::proofs::Readings::column_row))]
-fn is_other_column(terms: &Bank, t: i128, clause: &[Literal]) -> bool
-    ensures { IsTrue result ↔ IsOtherColumn terms.now.terms (pos 3 ∷ t ∷ []) clause.now }
+fn is_other_column(sorts: &[Option<Sort>], terms: &Graph, t: i128, clause: &[Literal]) -> bool
+    ensures { IsTrue result ↔ IsOtherColumn sorts.now terms.now (pos 3 ∷ t ∷ []) clause.now }
 {
-    match reading_at(terms, t) {
+    match reading_at(sorts, terms, t) {
         Some(r) => reads_column(terms, r, clause),
         None => false,
     }
 }
 
 /// Whether the clause says that nothing changed in another column.
-fn reads_column(terms: &Bank, r: Reading<'_>, clause: &[Literal]) -> bool
-    requires { r.other < length terms.now.terms }
-    ensures { IsTrue result ↔ ReadsColumn terms.now.terms r.entry clause.now }
+fn reads_column(terms: &Graph, r: Reading<'_>, clause: &[Literal]) -> bool
+    requires { r.other < length terms.now }
+    ensures { IsTrue result ↔ ReadsColumn terms.now r.entry clause.now }
 {
     r.column != r.store.column && is_unchanged(terms, r) && is_one(clause, yes(r.term))
 }

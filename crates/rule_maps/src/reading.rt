@@ -1,9 +1,11 @@
 //! Equalities whose left side reads a heap in which a value was stored.
 
-ghost use Rattle.std.specs.Prelude.{◌↔◌, ◌<◌, IsTrue, IfSome, MatchOption, length};
+ghost use Rattle.std.specs.Prelude.{◌≡◌, ◌↔◌, ◌<◌, IsTrue, IfSome, MatchOption, length};
+ghost use Rattle.rule_maps.specs.Rows as spec;
 ghost use Rattle.rule_maps.specs.Readings.{IsNoReading, IsReading, IsStored, IsNoStore, IsUnchanged};
 
-use term_bank::bank::Bank;
+use term_graph::graph::Graph;
+use terms::sort::Sort;
 use terms::term::Kind;
 use vcc_rules::equality::equality_at;
 
@@ -26,12 +28,25 @@ pub struct Reading<'a> {
     pub other: u32,
 }
 
-/// The reading that a step's number names.
-pub fn reading_at(terms: &Bank, number: i128) -> Option<Reading<'_>>
-    ensures reading { MatchOption result (IsNoReading terms.now.terms number) (IsReading terms.now.terms number) }
-    ensures within { IfSome result (λ r. r.other < length terms.now.terms) }
+/// Whether the term has a sort.
+fn is_sorted(sorts: &[Option<Sort>], t: u32) -> bool
+    ensures { result ≡ spec.is_sorted sorts.now t }
 {
-    let equality = equality_at(terms, number)?;
+    match sorts.get(t as usize) {
+        Some(sort) => sort.is_some(),
+        None => false,
+    }
+}
+
+/// The reading that a step's number names: an equality that has a sort.
+pub fn reading_at<'a>(sorts: &[Option<Sort>], terms: &'a Graph, name: i128) -> Option<Reading<'a>>
+    ensures reading { MatchOption result (IsNoReading sorts.now terms.now name) (IsReading sorts.now terms.now name) }
+    ensures within { IfSome result (λ r. r.other < length terms.now) }
+{
+    let equality = equality_at(terms, name)?;
+    if !is_sorted(sorts, equality.term) {
+        return None;
+    }
     let read = terms.node(equality.left);
     let (store, keys) = read.args.numbers().split_first()?;
     if read.kind != Kind::Get {
@@ -48,9 +63,9 @@ pub fn reading_at(terms: &Bank, number: i128) -> Option<Reading<'_>>
 }
 
 /// The store that a term is.
-fn store_at(terms: &Bank, term: u32) -> Option<Store<'_>>
-    requires { term < length terms.now.terms }
-    ensures { MatchOption result (IsNoStore terms.now.terms term) (IsStored terms.now.terms term) }
+fn store_at(terms: &Graph, term: u32) -> Option<Store<'_>>
+    requires { term < length terms.now }
+    ensures { MatchOption result (IsNoStore terms.now term) (IsStored terms.now term) }
 {
     let node = terms.node(term);
     let (heap, rest) = node.args.numbers().split_first()?;
@@ -67,9 +82,9 @@ fn store_at(terms: &Bank, term: u32) -> Option<Store<'_>>
 }
 
 /// Whether the right side reads the heap from before the store, in the same column and at the same keys.
-pub fn is_unchanged(terms: &Bank, r: Reading<'_>) -> bool
-    requires { r.other < length terms.now.terms }
-    ensures { IsTrue result ↔ IsUnchanged terms.now.terms r.entry }
+pub fn is_unchanged(terms: &Graph, r: Reading<'_>) -> bool
+    requires { r.other < length terms.now }
+    ensures { IsTrue result ↔ IsUnchanged terms.now r.entry }
 {
     let node = terms.node(r.other);
     match node.args.numbers().split_first() {

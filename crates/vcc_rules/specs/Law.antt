@@ -1,12 +1,10 @@
 -- What follows from earlier clauses, over every language. From first-order logic.
-use Rattle.std.specs.Prelude.{◌≡◌, ℕ, ◌<◌, List, Option, Some, slice_get, get_or, true, false, All}
+use Rattle.std.specs.Prelude.{◌≡◌, ℕ, ◌<◌, List, Option, Some, slice_get, true, false, All}
 use Rattle.terms.specs.declared.term.Term.{Term}
 use Rattle.terms.specs.declared.term.Literal.{Literal}
 use Rattle.terms.specs.declared.sort.Sort.{Sort}
-use Rattle.terms.specs.declared.sort.Sort.TheVariants as s
-use Rattle.term_bank.specs.Bank.{IsBank}
-use Rattle.term_meaning.specs.Meaning.{Language, Env, IsEnv, Value, IsValuation, truth, clause_true}
-use Rattle.term_meaning.specs.ValueSorts.{AreSorts}
+use Rattle.terms.specs.Formula.{Formula, Stands}
+use Rattle.term_meaning.specs.Meaning.{Language, Env, IsEnv, Value, IsValuation, truth, clause_true, sort_in}
 
 -- The condition, whose root this is, is false, and the first clauses are true.
 pub record EarlierHold (v : ℕ → Value) (root : Option ℕ) (clauses : List (List Literal)) (below : ℕ) : Type 0 where
@@ -25,11 +23,6 @@ IsWithin terms clause = All (λ (l : Literal). l.term < terms) clause
 abbrev pub AreWithin : ℕ → List (List Literal) → Type 0
 AreWithin terms clauses = (s : ℕ) (c : List Literal) → slice_get clauses s ≡ Some c → IsWithin terms c
 
--- the sort of the term with this number; one that has none counts as a truth value
-abbrev pub sort_at : List Sort → ℕ → Sort
-sort_at sorts t = get_or sorts t s.Bool
-
--- The terms are those of a bank, and these are their sorts in the language.
-pub record AreSorted (language : Language) (terms : List Term) (sorts : List Sort) : Type 0 where
-  pub bank : IsBank terms
-  pub each : AreSorts language terms (sort_at sorts)
+-- Where a term has a sort here, it stands for a tree that has this sort in the language. A term may have none.
+pub record AreSortsOf (language : Language) (terms : List Term) (sorts : List (Option Sort)) : Type 0 where
+  pub each : (t : ℕ) (s : Sort) → slice_get sorts t ≡ Some (Some s) → (f : Formula) × Stands terms t f × (sort_in language f ≡ Some s)

@@ -3,7 +3,7 @@
 ghost use Rattle.std.specs.Prelude.{◌<◌, IfSome, MatchOption, length};
 ghost use Rattle.vcc_rules.specs.Equality.{IsEquality, IsNoEquality};
 
-use term_bank::bank::Bank;
+use term_graph::graph::Graph;
 use terms::numbers::index_below;
 use terms::term::Kind;
 
@@ -16,9 +16,9 @@ pub struct Equality {
 }
 
 /// The equality that a step's number names.
-pub fn equality_at(terms: &Bank, number: i128) -> Option<Equality>
-    ensures equality { MatchOption result (IsNoEquality terms.now.terms number) (IsEquality terms.now.terms number) }
-    ensures within { IfSome result (λ e. (e.left < length terms.now.terms) × (e.right < length terms.now.terms)) }
+pub fn equality_at(terms: &Graph, number: i128) -> Option<Equality>
+    ensures equality { MatchOption result (IsNoEquality terms.now number) (IsEquality terms.now number) }
+    ensures within { IfSome result (λ e. (e.left < length terms.now) × (e.right < length terms.now)) }
 {
     let term = index_below(number, terms.len())? as u32;
     let node = terms.node(term);

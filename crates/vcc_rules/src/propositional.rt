@@ -8,7 +8,7 @@ ghost use Rattle.vcc_rules.specs.Sound.{root_sound, connective_sound, chain_soun
 use crate::equality::{Equality, equality_at};
 use crate::rule::{Clauses, Rule, Scratch};
 use int_ranges::exact::Wide;
-use term_bank::bank::Bank;
+use term_graph::graph::Graph;
 use terms::numbers::{Numbers, index_below};
 use terms::term::{Kind, Literal, Term};
 
@@ -26,7 +26,7 @@ impl Rule for Root {
 
     fn concludes(
         &self,
-        _terms: &Bank,
+        _terms: &Graph,
         earlier: &Clauses,
         _below: usize,
         detail: &Numbers,
@@ -57,7 +57,7 @@ impl Rule for Connective {
 
     fn concludes(
         &self,
-        terms: &Bank,
+        terms: &Graph,
         _earlier: &Clauses,
         _below: usize,
         detail: &Numbers,
@@ -75,8 +75,8 @@ impl Rule for Connective {
 }
 
 #[tactic(auto, using(crate::proofs::Parts::part_below))]
-fn is_clausal(terms: &Bank, part: i128, term: i128, clause: &[Literal]) -> bool
-    ensures row { IsTrue result ↔ IsClausal terms.now.terms (part ∷ term ∷ []) clause.now }
+fn is_clausal(terms: &Graph, part: i128, term: i128, clause: &[Literal]) -> bool
+    ensures row { IsTrue result ↔ IsClausal terms.now (part ∷ term ∷ []) clause.now }
 {
     match (index_below(part, 4), index_below(term, terms.len())) {
         (Some(part), Some(t)) => is_part(terms.node(t as u32), t as u32, part, clause),
@@ -114,8 +114,8 @@ pub struct Choice {
 }
 
 /// The choice that a step's number names.
-fn choice_at(terms: &Bank, number: i128) -> Option<Choice>
-    ensures { MatchOption result (IsNoChoice terms.now.terms number) (IsChoice terms.now.terms number) }
+fn choice_at(terms: &Graph, number: i128) -> Option<Choice>
+    ensures { MatchOption result (IsNoChoice terms.now number) (IsChoice terms.now number) }
 {
     let term = index_below(number, terms.len())? as u32;
     let node = terms.node(term);
@@ -131,8 +131,8 @@ fn choice_at(terms: &Bank, number: i128) -> Option<Choice>
 }
 
 #[tactic(auto, using(crate::proofs::Choices::branch_chosen, crate::proofs::Choices::chosen_branch))]
-fn is_chosen(terms: &Bank, part: i128, term: i128, equation: i128, clause: &[Literal]) -> bool
-    ensures row { IsTrue result ↔ IsChosen terms.now.terms (part ∷ term ∷ equation ∷ []) clause.now }
+fn is_chosen(terms: &Graph, part: i128, term: i128, equation: i128, clause: &[Literal]) -> bool
+    ensures row { IsTrue result ↔ IsChosen terms.now (part ∷ term ∷ equation ∷ []) clause.now }
 {
     match (choice_at(terms, term), equality_at(terms, equation)) {
         (Some(c), Some(e)) => is_branch(part, c, e, clause),
@@ -209,7 +209,7 @@ impl Rule for Chain {
 
     fn concludes(
         &self,
-        _terms: &Bank,
+        _terms: &Graph,
         earlier: &Clauses,
         below: usize,
         detail: &Numbers,

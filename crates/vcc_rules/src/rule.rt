@@ -9,7 +9,7 @@ use crate::chain::{clear, closes};
 use int_ranges::exact::Wide;
 use std::alloc::{AllocError, Global};
 use std::marker::Model;
-use term_bank::bank::Bank;
+use term_graph::graph::Graph;
 use terms::term::{Clause, Literal};
 
 /// The root of the condition, which is taken as false, and the clauses of the steps so far.
@@ -154,7 +154,7 @@ pub trait Rule {
     /// The operands of the first number on the way that leaves 128 bits.
     fn concludes(
         &self,
-        terms: &Bank,
+        terms: &Graph,
         earlier: &Clauses,
         below: usize,
         detail: &Self::Data,
@@ -162,12 +162,12 @@ pub trait Rule {
         scratch: &mut Scratch,
     ) -> Result<bool, Wide>
         requires below { below ≤ length earlier.now.list.items }
-        requires within { AreWithin (length terms.now.terms) earlier.now.list.items }
-        requires clause_within { IsWithin (length terms.now.terms) clause.now }
-        requires room { scratch.old ≡ length terms.now.terms }
-        ensures rows { IfOk result (λ yes. IsTrue yes ↔ gives self.now terms.now.terms earlier.now below detail.now clause.now) }
-        ensures exact { IfOk result (λ yes. (w : Wide) → leaves self.now terms.now.terms detail.now clause.now w → ⊥) }
-        ensures wide { IfErr result (leaves self.now terms.now.terms detail.now clause.now) }
+        requires within { AreWithin (length terms.now) earlier.now.list.items }
+        requires clause_within { IsWithin (length terms.now) clause.now }
+        requires room { scratch.old ≡ length terms.now }
+        ensures rows { IfOk result (λ yes. IsTrue yes ↔ gives self.now terms.now earlier.now below detail.now clause.now) }
+        ensures exact { IfOk result (λ yes. (w : Wide) → leaves self.now terms.now detail.now clause.now w → ⊥) }
+        ensures wide { IfErr result (leaves self.now terms.now detail.now clause.now) }
         ensures room { scratch.new ≡ scratch.old };
 
     /// A clause that a row gives is true wherever the earlier ones are, in every environment of the language.
@@ -180,7 +180,7 @@ pub trait Rule {
 /// The operands of the first number on the way that leaves 128 bits.
 pub fn conclude<R: Rule>(
     rule: &R,
-    terms: &Bank,
+    terms: &Graph,
     earlier: &Clauses,
     below: usize,
     detail: &R::Data,
@@ -188,13 +188,13 @@ pub fn conclude<R: Rule>(
     scratch: &mut Scratch,
 ) -> Result<bool, Wide>
     requires below { below ≤ length earlier.now.list.items }
-    requires within { AreWithin (length terms.now.terms) earlier.now.list.items }
-    requires clause_within { IsWithin (length terms.now.terms) clause.now }
-    requires room { scratch.old ≡ length terms.now.terms }
-    ensures rows { IfOk result (λ yes. IsTrue yes ↔ R.gives rule.now terms.now.terms earlier.now below detail.now clause.now) }
-    ensures exact { IfOk result (λ yes. (w : Wide) → R.leaves rule.now terms.now.terms detail.now clause.now w → ⊥) }
-    ensures wide { IfErr result (R.leaves rule.now terms.now.terms detail.now clause.now) }
-    ensures follows { (language : Language) → R.suits rule.now language terms.now.terms → IfOk result (λ yes. IsTrue yes → IsConsequence language terms.now.terms earlier.now.root earlier.now.list.items below clause.now) }
+    requires within { AreWithin (length terms.now) earlier.now.list.items }
+    requires clause_within { IsWithin (length terms.now) clause.now }
+    requires room { scratch.old ≡ length terms.now }
+    ensures rows { IfOk result (λ yes. IsTrue yes ↔ R.gives rule.now terms.now earlier.now below detail.now clause.now) }
+    ensures exact { IfOk result (λ yes. (w : Wide) → R.leaves rule.now terms.now detail.now clause.now w → ⊥) }
+    ensures wide { IfErr result (R.leaves rule.now terms.now detail.now clause.now) }
+    ensures follows { (language : Language) → R.suits rule.now language terms.now → IfOk result (λ yes. IsTrue yes → IsConsequence language terms.now earlier.now.root earlier.now.list.items below clause.now) }
     ensures room { scratch.new ≡ scratch.old }
 {
     rule.concludes(terms, earlier, below, detail, clause, scratch)

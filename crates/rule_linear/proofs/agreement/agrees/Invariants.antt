@@ -5,5 +5,5 @@ use Rattle.rule_linear.proofs.agreement.agrees.Given as goal
 
 abbrev pub invariant-loop-i : goal.invariant-loop-i
 invariant-loop-i l =
-    Agree l.weights l.terms.terms l.goal (all_units l.weights.sorts.now l.terms.terms (drop l.i (weighted l.weights)))
-    ↔ Agree l.weights l.terms.terms l.goal (all_units l.weights.sorts.now l.terms.terms (weighted l.weights))
+    Agree l.weights l.terms l.goal (all_units l.weights.sorts.now l.terms (drop l.i (weighted l.weights)))
+    ↔ Agree l.weights l.terms l.goal (all_units l.weights.sorts.now l.terms (weighted l.weights))

@@ -15,5 +15,5 @@ loop-i-preserved c =
     let t = c.loop-i-test.true in
     let q = c.requires in
     to_z-of_z w128 c.add_multiple-sum.result r ∙ simp to_z-of_z at h
-    ∙ wrapped_more c.args.weights.sorts.now c.args.terms.now.terms c.args.weights.multipliers.now c.args.weights.literals.now c.loop-i.i (record { term = 0; positive = false }) c.args.part (to_z w128 c.loop-i.sum-bits) n
+    ∙ wrapped_more c.args.weights.sorts.now c.args.terms.now c.args.weights.multipliers.now c.args.weights.literals.now c.loop-i.i (record { term = 0; positive = false }) c.args.part (to_z w128 c.loop-i.sum-bits) n
     (let m = q.multipliers in omega (arith, t, m)) (let m = q.literals in omega (arith, t, m)) c.loop-i.invariant c.literal_part-number.ensures

@@ -5,4 +5,4 @@ use Rattle.rule_linear.specs.Sides.{weighted}
 use Rattle.rule_linear.proofs.bound.total_part.Given as goal
 
 abbrev pub invariant-loop-i : goal.invariant-loop-i
-invariant-loop-i l = l.sum ≡ int_wrap w128 (total l.weights.sorts.now l.terms.terms (take l.i (weighted l.weights)) l.part)
+invariant-loop-i l = l.sum ≡ int_wrap w128 (total l.weights.sorts.now l.terms (take l.i (weighted l.weights)) l.part)

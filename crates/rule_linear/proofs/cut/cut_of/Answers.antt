@@ -12,4 +12,4 @@ returns-clause-exact c =
     let n : c.args.numbers.now ≡ g ∷ c.in-Some.multipliers.now = search rules in
     let l : c.args.clause.now ≡ c.in-Some-split_last.before.now ++ c.in-Some-split_last.last.now ∷ [] = search rules in
     let h = c.is_cut.ensures.exact in
-    exact_of c.args.sorts.now c.args.terms.now.terms c.args.numbers.now c.args.clause.now g c.in-Some.multipliers.now c.in-Some-split_last.before.now c.in-Some-split_last.last.now n l c.is_cut.result (simp to_z-of_z at h)
+    exact_of c.args.sorts.now c.args.terms.now c.args.numbers.now c.args.clause.now g c.in-Some.multipliers.now c.in-Some-split_last.before.now c.in-Some-split_last.last.now n l c.is_cut.result (simp to_z-of_z at h)

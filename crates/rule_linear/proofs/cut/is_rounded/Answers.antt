@@ -13,5 +13,5 @@ returns c =
     let g : SFits w128 constant = search rules in
     let i : SFits w128 c.args.target.factor = search rules in
     let h = c.is_rounded_up.ensures in
-    rounded_row c.args.weights c.args.terms.now.terms c.args.target c.args.goal c.requires.bound c.agrees.result c.agrees_with.result c.is_rounded_up.result constant sum c.requires.lengths
+    rounded_row c.args.weights c.args.terms.now c.args.target c.args.goal c.requires.bound c.agrees.result c.agrees_with.result c.is_rounded_up.result constant sum c.requires.lengths
     c.agrees.ensures c.if-not-agrees.false c.agrees_with.ensures c.if-not-agrees_with.false c.total_part-sum.ensures c.requires.known c.bound_part-constant.ensures c.requires.goal (simp to_z-of_z at h)

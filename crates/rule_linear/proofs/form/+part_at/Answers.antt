@@ -8,7 +8,7 @@ use Rattle.rule_linear.proofs.form.+part_at.Goals as goal
 
 pub returns-in-Plus : goal.returns-in-Plus
 returns-in-Plus t c =
-    let s = sum_at c.args.terms.now.terms in
+    let s = sum_at c.args.terms.now in
     let f : SFits w128 c.part_at.result = search rules in
     let g : SFits w128 c.part_at-in-Plus.result = search rules in
     let r : SFits w128 c.wrapped_sum.result = search rules in
@@ -18,7 +18,7 @@ returns-in-Plus t c =
 
 pub returns-in-Minus : goal.returns-in-Minus
 returns-in-Minus t c =
-    let s = sum_at c.args.terms.now.terms in
+    let s = sum_at c.args.terms.now in
     let f : SFits w128 c.part_at-in-Minus.result = search rules in
     let g : SFits w128 c.part_at-in-Minus-2.result = search rules in
     let r : SFits w128 c.wrapped_difference.result = search rules in
@@ -28,7 +28,7 @@ returns-in-Minus t c =
 
 pub returns-in-Times : goal.returns-in-Times
 returns-in-Times t c =
-    let s = sum_at c.args.terms.now.terms in
+    let s = sum_at c.args.terms.now in
     let f : SFits w128 c.in-Times.n = search rules in
     let g : SFits w128 c.part_at-in-Times.result = search rules in
     let r : SFits w128 c.wrapped_product.result = search rules in

@@ -9,7 +9,7 @@ use Rattle.rule_linear.proofs.steps.add_one.Goals as goal
 
 pub returns-then-b : goal.returns-then-b
 returns-then-b c =
-    let s = sum_at c.args.terms.now.terms in
+    let s = sum_at c.args.terms.now in
     let f : SFits w128 c.part_at-left.result = search rules in
     let g : SFits w128 c.part_at-right.result = search rules in
     let i : SFits w128 c.wrapped_difference-constant.result = search rules in

@@ -15,5 +15,5 @@ returns-in-Add c =
     let j : SFits w128 c.in-Add.m = search rules in
     let h = c.wrapped_product-product.ensures in
     let k = c.add_fits.ensures in
-    add_meets c.args.weights.sorts.now c.args.terms.now.terms (take c.args.end (weighted c.args.weights)) c.args.job c.in-Add.m c.in-Add.b c.args.part c.total_part-sum.result c.bound_part-number.result c.wrapped_product-product.result c.add_fits.result
+    add_meets c.args.weights.sorts.now c.args.terms.now (take c.args.end (weighted c.args.weights)) c.args.job c.in-Add.m c.in-Add.b c.args.part c.total_part-sum.result c.bound_part-number.result c.wrapped_product-product.result c.add_fits.result
     c.in-Add.is c.total_part-sum.ensures c.bound_part-number.ensures (simp to_z-of_z at h) c.requires.exact (simp to_z-of_z at k)

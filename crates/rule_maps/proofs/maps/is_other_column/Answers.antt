@@ -5,4 +5,4 @@ use Rattle.rule_maps.proofs.maps.is_other_column.Goals as goal
 
 pub returns-in-None : goal.returns-in-None
 returns-in-None c =
-    ((λ h. cc), (λ row. absurd (no_column _ _ _ _ (to_z-of_z w128 c.args.t c.ranges.t) c.in-None.ensures.reading row)))
+    ((λ h. cc), (λ row. absurd (no_column _ _ _ _ _ (to_z-of_z w128 c.args.t c.ranges.t) c.in-None.ensures.reading row)))

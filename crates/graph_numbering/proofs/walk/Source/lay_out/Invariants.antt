@@ -7,4 +7,4 @@ decreases-loop-visit l = left l.places l.root (length (reverse l.stacks.visits.i
 
 abbrev pub invariant-loop-visit : goal.invariant-loop-visit
 invariant-loop-visit l =
-    IsWalk l.self.graph.now (option_map (λ a. a.now) l.self.args) l.initial.bank.terms l.root l.places (reverse l.stacks.visits.items) l.bank.terms l.stacks.numbers.items
+    IsWalk l.self.graph.now (option_map (λ a. a.now) l.self.args) l.initial.target l.root l.places (reverse l.stacks.visits.items) l.target l.stacks.numbers.items

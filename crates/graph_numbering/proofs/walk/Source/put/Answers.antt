@@ -13,8 +13,4 @@ pub returns-in-Ok-clause-laid : goal.returns-in-Ok-clause-laid
 returns-in-Ok-clause-laid c =
     λ f s.
     (let x = c.in-Ok.ensures.laid in
-    subst (λ (g : Formula). Lays (option_map (λ a. a.now) c.args.self.now.args) g c.args.bank.now.terms c.lay_out.new.bank.terms c.in-Ok.id) (only c.args.self.now.graph.now c.args.root x.0 f x.1 s) x.2)
-
-pub returns-then-root-len-clause-full : goal.returns-then-root-len-clause-full
-returns-then-root-len-clause-full c =
-    λ e f new id s x d. absurd (let inside : c.args.root < length c.args.self.now.graph.now = stands_within c.args.self.now.graph.now c.args.root f s in omega (arith, inside, c.len.ensures.len, c.if-root-len.true))
+    subst (λ (g : Formula). Lays (option_map (λ a. a.now) c.args.self.now.args) g c.args.target.now c.lay_out.new.target c.in-Ok.id) (only c.args.self.now.graph.now c.args.root x.0 f x.1 s) x.2)

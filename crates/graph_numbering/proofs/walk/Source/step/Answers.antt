@@ -1,8 +1,6 @@
-use Rattle.std.proofs.Common.{◌-◌, ◌+◌, ◌<◌, ◌≤◌, ℕ, List, [], ◌∷◌, ◌++◌, All, length, get_or, take, drop, reverse, vec_items, Err, refl, ap, sym, ◌∙◌, subst}
+use Rattle.std.proofs.Common.{◌-◌, ◌+◌, ◌<◌, ◌≤◌, ℕ, List, [], ◌∷◌, ◌++◌, All, length, get_or, take, drop, reverse, vec_items, refl, ap, sym, ◌∙◌, subst}
 use Rattle.graph_numbering.specs.declared.walk.Visit.{Visit}
 use Rattle.graph_numbering.specs.Walk.{placed_front}
-use Rattle.graph_numbering.specs.Stacks.{front_from}
-use Rattle.graph_numbering.proofs.Full.{whole_full, null_full, err_same}
 use Rattle.graph_numbering.proofs.Steps.{visit_room, pushed_within, descended, whole_step, given_step, null_step, finished}
 use Rattle.graph_numbering.proofs.walk.Source.step.Goals as goal
 
@@ -23,7 +21,7 @@ returns-then-next-args-clause-step c =
 
 pub intern-requires-clause-within : goal.intern-requires-clause-within
 intern-requires-clause-within c =
-    subst (λ (xs : List ℕ). All (λ a. a < length c.args.bank.now.terms) xs) (sym c.in_ok-next-in-Itself.ensures.numbers)
+    subst (λ (xs : List ℕ). All (λ a. a < length c.args.target.now) xs) (sym c.in_ok-next-in-Itself.ensures.numbers)
     (pushed_within _ _ c.requires.0 c.requires.1 _ c.args.visit _ _ _ c.node-node.result.now c.node-node.ensures.node
     (placed_front c.args.places.now (drop c.args.visit.next c.numbers-args.result.now))
     (ap (λ xs. placed_front c.args.places.now (drop c.args.visit.next xs)) c.numbers-args.ensures) c.requires.2)
@@ -44,8 +42,8 @@ returns-in_ok-end-in-Itself-clause-step c =
     let t = c.node-node.result.now in
     let id = c.in_ok-id-in-Itself.id in
     let pushed = c.push_placed.new.self.numbers.items in
-    finished _ _ old root _ v _ c.args.bank.now.terms c.args.stacks.now.numbers.items c.end.new.places c.intern.new.bank.terms id (reverse c.end.new.self.visits.items) (take (length pushed - length t.args) pushed) c.end.new.self.numbers.items
-    (whole_step _ _ old root _ v _ _ _ t c.node-node.ensures.node (placed_front c.args.places.now (drop v.next c.numbers-args.result.now)) pushed c.in_ok-next-in-Itself.next c.intern.new.bank.terms id
+    finished _ _ old root _ v _ c.args.target.now c.args.stacks.now.numbers.items c.end.new.places c.intern.new.target id (reverse c.end.new.self.visits.items) (take (length pushed - length t.args) pushed) c.end.new.self.numbers.items
+    (whole_step _ _ old root _ v _ _ _ t c.node-node.ensures.node (placed_front c.args.places.now (drop v.next c.numbers-args.result.now)) pushed c.in_ok-next-in-Itself.next c.intern.new.target id
     (ap (λ xs. placed_front c.args.places.now (drop v.next xs)) c.numbers-args.ensures) c.in_ok-next-in-Itself.ensures.next
     (subst (λ (xs : List ℕ). length xs ≤ c.in_ok-next-in-Itself.next) c.numbers-args.ensures c.if-next-args.false) w (sym c.in-Itself.ensures)
     c.in_ok-next-in-Itself.ensures.numbers c.in_ok-id-in-Itself.ensures.interned c.in_ok-id-in-Itself.ensures.within)
@@ -58,7 +56,7 @@ returns-in_ok-end-in-Given-clause-step c =
     λ old root w.
     (let v = c.args.visit in
     let id = c.in-Given.id in
-    finished _ _ old root _ v _ c.args.bank.now.terms c.args.stacks.now.numbers.items c.end-in-Given.new.places c.args.bank.now.terms id (reverse c.end-in-Given.new.self.visits.items) c.args.stacks.now.numbers.items c.end-in-Given.new.self.numbers.items
+    finished _ _ old root _ v _ c.args.target.now c.args.stacks.now.numbers.items c.end-in-Given.new.places c.args.target.now id (reverse c.end-in-Given.new.self.visits.items) c.args.stacks.now.numbers.items c.end-in-Given.new.self.numbers.items
     (given_step _ _ old root _ v _ _ _ c.node-node.result.now c.node-node.ensures.node id c.known.ensures w (sym c.in-Given.ensures))
     c.in_ok-end-in-Given.ensures.places (ap (λ xs. reverse (vec_items xs)) c.in_ok-end-in-Given.ensures.visits) c.in_ok-end-in-Given.ensures.numbers)
 
@@ -67,23 +65,6 @@ returns-in_ok-end-in-Null-clause-step c =
     λ old root w.
     (let v = c.args.visit in
     let id = c.in_ok-id-in-Null.id in
-    finished _ _ old root _ v _ c.args.bank.now.terms c.args.stacks.now.numbers.items c.end-in-Null.new.places c.intern_null.new.bank.terms id (reverse c.end-in-Null.new.self.visits.items) c.args.stacks.now.numbers.items c.end-in-Null.new.self.numbers.items
-    (null_step _ _ old root _ v _ _ _ c.node-node.result.now c.node-node.ensures.node c.intern_null.new.bank.terms id c.known.ensures w (sym c.in-Null.ensures) c.in_ok-id-in-Null.ensures.interned c.in_ok-id-in-Null.ensures.within)
+    finished _ _ old root _ v _ c.args.target.now c.args.stacks.now.numbers.items c.end-in-Null.new.places c.intern_null.new.target id (reverse c.end-in-Null.new.self.visits.items) c.args.stacks.now.numbers.items c.end-in-Null.new.self.numbers.items
+    (null_step _ _ old root _ v _ _ _ c.node-node.result.now c.node-node.ensures.node c.intern_null.new.target id c.known.ensures w (sym c.in-Null.ensures) c.in_ok-id-in-Null.ensures.interned c.in_ok-id-in-Null.ensures.within)
     c.in_ok-end-in-Null.ensures.places (ap (λ xs. reverse (vec_items xs)) c.in_ok-end-in-Null.ensures.visits) c.in_ok-end-in-Null.ensures.numbers)
-
-pub returns-in_err-id-in-Itself-clause-full : goal.returns-in_err-id-in-Itself-clause-full
-returns-in_err-id-in-Itself-clause-full c =
-    λ old root w e.
-    (let no_room = c.in_err-id-in-Itself.ensures.full (ap Err (err_same _ _ _ c.from_residual-in_err-id-in-Itself.ensures.1 e)) in
-    let v = c.args.visit in
-    let t = c.node-node.result.now in
-    whole_full _ _ old root _ v _ _ _ t c.node-node.ensures.node (front_from c.args.places.now c.numbers-args.result.now v.next) c.push_placed.new.self.numbers.items c.in_ok-next-in-Itself.next
-    (ap (λ xs. front_from c.args.places.now xs v.next) c.numbers-args.ensures) c.in_ok-next-in-Itself.ensures.next
-    (subst (λ (xs : List ℕ). length xs ≤ c.in_ok-next-in-Itself.next) c.numbers-args.ensures c.if-next-args.false) w (sym c.in-Itself.ensures)
-    c.in_ok-next-in-Itself.ensures.numbers no_room)
-
-pub returns-in_err-id-in-Null-clause-full : goal.returns-in_err-id-in-Null-clause-full
-returns-in_err-id-in-Null-clause-full c =
-    λ old root w e.
-    (let no_room = c.in_err-id-in-Null.ensures.full (ap Err (err_same _ _ _ c.from_residual-in_err-id-in-Null.ensures.1 e)) in
-    null_full _ _ old root _ c.args.visit _ _ _ c.node-node.result.now c.node-node.ensures.node w (sym c.in-Null.ensures) no_room)
