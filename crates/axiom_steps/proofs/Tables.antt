@@ -1,12 +1,12 @@
 -- A table of steps is the axioms' where each of its rows is one.
-use Rattle.std.specs.Prelude.{◌≡◌, ℕ, ℤ, zero, suc, ◌+◌, false, List, map, option_map, [], ◌∷◌, Option, Some, None, slice_get, option_and_then}
-use Rattle.std.proofs.Common.{refl, sym, ap, ◌∙◌, subst, arith, Bor}
+use Rattle.std.specs.Prelude.{◌≡◌, ℕ, ℤ, zero, suc, List, map, option_map, [], ◌∷◌, Option, Some, None, slice_get, option_and_then}
+use Rattle.std.proofs.Common.{refl, sym, ap, ◌∙◌, subst, Bor}
 use Rattle.terms.specs.Formula.{Formula}
 use Rattle.term_meaning.specs.Meaning.{Language}
 use Rattle.axiom_instances.specs.Fitting.{Row, needs}
 use Rattle.axiom_instances.specs.Axioms.{axioms, item_at}
 use Rattle.axiom_steps.specs.declared.steps.Step.{Step}
-use Rattle.axiom_steps.specs.Steps.{run, start, fills, natural, IsRow}
+use Rattle.axiom_steps.specs.Steps.{run, start, natural, IsRow}
 use Rattle.axiom_steps.specs.Rows.{or_none, steps_at, IsPart}
 
 module _ (l : Language) (tree : ℕ → Option Formula) where
@@ -17,11 +17,11 @@ module _ (l : Language) (tree : ℕ → Option Formula) where
   AreParts (s ∷ ss) [] = ⊥
   AreParts (s ∷ ss) (r ∷ rs) = ((ns : List ℕ) → run l tree s start ns ≡ r ns) × AreParts ss rs
 
-  abbrev pub AreAxioms : ℕ → List (List (List Step)) → List (List Row) → Type 0
-  AreAxioms n [] [] = Unit {0}
-  AreAxioms n [] (r ∷ rs) = ⊥
-  AreAxioms n (s ∷ ss) [] = ⊥
-  AreAxioms n (s ∷ ss) (r ∷ rs) = (fills n ≡ false → AreParts s r) × AreAxioms (suc n) ss rs
+  abbrev pub AreAxioms : List (List (List Step)) → List (List Row) → Type 0
+  AreAxioms [] [] = Unit {0}
+  AreAxioms [] (r ∷ rs) = ⊥
+  AreAxioms (s ∷ ss) [] = ⊥
+  AreAxioms (s ∷ ss) (r ∷ rs) = AreParts s r × AreAxioms ss rs
 
   -- what a row of a table gives, if there is one
   abbrev pub part_gives : Option Row → List ℕ → Option Formula
@@ -42,26 +42,20 @@ module _ (l : Language) (tree : ℕ → Option Formula) where
   part_at ss rs are zero ns = none_runs ns
   part_at ss rs are (suc n) ns = parts_at ss rs are n ns
 
-  axioms_at : (m : ℕ) (ss : List (List (List Step))) (rs : List (List Row)) → AreAxioms m ss rs → (n part : ℕ) (ns : List ℕ) → fills (n + m) ≡ false → run l tree (or_none (option_and_then (λ parts. item_at parts part) (slice_get ss n))) start ns ≡ option_and_then (λ rows. part_gives (item_at rows part) ns) (slice_get rs n)
-  axioms_at m [] [] are n part ns e = none_runs ns
-  axioms_at m [] (r ∷ rs) are n part ns e = absurd are
-  axioms_at m (s ∷ ss) [] are n part ns e = absurd are
-  axioms_at m (s ∷ ss) (r ∷ rs) are zero part ns e =
-      let here : m ≡ 0 + m = omega arith in
-      part_at s r (are.0 (ap fills here ∙ e)) part ns
-  axioms_at m (s ∷ ss) (r ∷ rs) are (suc n) part ns e =
-      let next : n + suc m ≡ suc n + m = omega arith in
-      axioms_at (suc m) ss rs are.1 n part ns (ap fills next ∙ e)
+  axioms_at : (ss : List (List (List Step))) (rs : List (List Row)) → AreAxioms ss rs → (n part : ℕ) (ns : List ℕ) → run l tree (or_none (option_and_then (λ parts. item_at parts part) (slice_get ss n))) start ns ≡ option_and_then (λ rows. part_gives (item_at rows part) ns) (slice_get rs n)
+  axioms_at [] [] are n part ns = none_runs ns
+  axioms_at [] (r ∷ rs) are n part ns = absurd are
+  axioms_at (s ∷ ss) [] are n part ns = absurd are
+  axioms_at (s ∷ ss) (r ∷ rs) are zero part ns = part_at s r are.0 part ns
+  axioms_at (s ∷ ss) (r ∷ rs) are (suc n) part ns = axioms_at ss rs are.1 n part ns
 
-  pub axiom_at : (ss : List (List (List Step))) (rs : List (List Row)) → AreAxioms 1 ss rs → (n part : ℕ) (ns : List ℕ) → fills n ≡ false → run l tree (steps_at ss n part) start ns ≡ option_and_then (λ rows. part_gives (item_at rows part) ns) (item_at rs n)
-  axiom_at ss rs are zero part ns e = none_runs ns
-  axiom_at ss rs are (suc n) part ns e =
-      let one : n + 1 ≡ suc n = omega arith in
-      axioms_at 1 ss rs are n part ns (ap fills one ∙ e)
+  pub axiom_at : (ss : List (List (List Step))) (rs : List (List Row)) → AreAxioms ss rs → (n part : ℕ) (ns : List ℕ) → run l tree (steps_at ss n part) start ns ≡ option_and_then (λ rows. part_gives (item_at rows part) ns) (item_at rs n)
+  axiom_at ss rs are zero part ns = none_runs ns
+  axiom_at ss rs are (suc n) part ns = axioms_at ss rs are n part ns
 
 -- the steps are those of a table of the axioms
-pub row_of : {ss : List (List (List Step))} {n part : ℤ} {steps : List Step} → IsPart ss n part steps → ((l : Language) (tree : ℕ → Option Formula) → AreAxioms l tree 1 ss (axioms l tree)) → IsRow steps (natural n) (natural part)
-row_of {ss} {n} {part} same are = subst (λ (qs : List Step). IsRow qs (natural n) (natural part)) (sym same.is) (record { same = λ l tree ns e. axiom_at l tree ss (axioms l tree) (are l tree) (natural n) (natural part) ns e })
+pub row_of : {ss : List (List (List Step))} {n part : ℤ} {steps : List Step} → IsPart ss n part steps → ((l : Language) (tree : ℕ → Option Formula) → AreAxioms l tree ss (axioms l tree)) → IsRow steps (natural n) (natural part)
+row_of {ss} {n} {part} same are = subst (λ (qs : List Step). IsRow qs (natural n) (natural part)) (sym same.is) (record { same = λ l tree ns. axiom_at l tree ss (axioms l tree) (are l tree) (natural n) (natural part) ns })
 
 -- Items of tables that are seen through references.
 

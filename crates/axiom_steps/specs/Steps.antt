@@ -1,15 +1,16 @@
 -- The rows of the axioms as lists of steps: terms are taken by their numbers, and a formula is made from the inside out, each node of the last formulas before it. Own.
-use Rattle.std.specs.Prelude.{◌≡◌, ℕ, ◌-◌, ◌==◌, Bool, false, not, ◌&&◌, ◌||◌, ℤ, pos, negsuc, List, [], ◌∷◌, ◌++◌, map, take, drop, length, Option, Some, None, slice_get, option_and_then, option_map}
+use Rattle.std.specs.Prelude.{◌≡◌, ℕ, ◌-◌, Bool, false, not, ◌&&◌, ℤ, pos, negsuc, List, [], ◌∷◌, ◌++◌, map, take, drop, length, Option, Some, None, slice_get, option_and_then, option_map}
 use Rattle.method.specs.declared.program.Program.{Program}
 use Rattle.method.specs.declared.program.DeclaredType.{DeclaredType}
 use Rattle.method.specs.declared.program.DeclaredType.TheVariants.{Object}
-use Rattle.method.specs.Tables.{is_claimable, has_volatile_owns}
+use Rattle.method.specs.Tables.{is_struct, is_claimable, has_volatile_owns}
 use Rattle.terms.specs.Formula.{Formula, Node}
 use Rattle.term_meaning.specs.Columns.{Column, Modes}
-use Rattle.term_meaning.specs.Meaning.{Language}
+use Rattle.term_meaning.specs.Meaning.{Language, invariant_of}
+use Rattle.term_meaning.specs.Filling.{fill}
 use Rattle.axiom_instances.specs.Terms.{trees, num, no, eq, all_of, range_facts, is_clean, is_clean_read}
-use Rattle.axiom_instances.specs.Fitting.{Row, gives, fits, needs, number, term, refs, column}
-use Rattle.axiom_instances.specs.Axioms.{StatusChange, instance, is_type, is_fixed, is_approved_of, type_of_column, is_content_column, is_owned, status_change}
+use Rattle.axiom_instances.specs.Fitting.{Row, gives, fits, needs, number, term, refs, column, quantified}
+use Rattle.axiom_instances.specs.Axioms.{StatusChange, instance, is_type, is_fixed, is_approved_of, type_of_column, is_content_column, is_owned, conjunct_of, status_change}
 use Rattle.axiom_steps.specs.declared.steps.Step.{Step}
 use Rattle.axiom_steps.specs.declared.steps.Step.TheVariants as s
 use Rattle.axiom_steps.specs.declared.steps.Test.{Test}
@@ -19,7 +20,7 @@ use Rattle.axiom_steps.specs.declared.steps.Index.TheVariants as i
 use Rattle.axiom_steps.specs.declared.steps.Behind.{Behind}
 use Rattle.axiom_steps.specs.declared.steps.Behind.TheVariants as b
 
--- What was taken and made so far: terms and then formulas, the writes list, a type, a column with its number and terms for its further keys, a field's type.
+-- What was taken and made so far: terms and then formulas, the writes list, a type, a column with its number and terms for its further keys, a field's type, the formula of an annotation. A quantified formula has its number and terms for its holes in place of a column's.
 pub record State : Type 0 where
   pub terms : List Formula
   pub writes : List Formula
@@ -28,6 +29,7 @@ pub record State : Type 0 where
   pub place : Column
   pub keys : List Formula
   pub declared : DeclaredType
+  pub body : Option Formula
 
 -- one more formula
 abbrev pub push : Formula → State → State
@@ -67,6 +69,7 @@ passes p t.CleanHeap st = if_any (is_clean p) (slice_get st.terms 0)
 passes p t.CleanRead st = if_any (is_clean_read p) (slice_get st.terms 0)
 passes p t.Unclaimable st = is_type p st.ty && not (is_claimable p st.ty)
 passes p t.HasFixedSet st = is_type p st.ty && not (has_volatile_owns p st.ty)
+passes p t.IsStruct st = is_struct p st.ty
 passes p t.IsFixed st = is_fixed p st.ty st.place
 passes p t.IsApproved st = is_approved_of p st.ty st.place
 passes p t.IsContent st = is_content_column st.place
@@ -95,6 +98,9 @@ module _ (l : Language) (tree : ℕ → Option Formula) where
   run (s.TakeColumn ∷ rest) st = column l tree (λ n c ks. run rest (record st { number = n; place = c; keys = ks }))
   run (s.TakeChange ∷ rest) st = status_change l tree (λ h c. run rest (changed h c st))
   run (s.TakeFieldType ∷ rest) st = needs (type_of_column l.program st.place) (λ ty. run rest (record st { declared = ty }))
+  run (s.TakeQuantified ∷ rest) st = quantified l tree (λ n body ks. run rest (record st { number = n; keys = ks; body = Some body }))
+  run (s.TakeInvariant ∷ rest) st = needs (invariant_of l st.ty) (λ f. run rest (record st { body = Some f }))
+  run (s.TakeConjunct ∷ rest) st = needs (conjunct_of l st.place) (λ f. run rest (record st { body = Some f }))
   run (s.Check test ∷ rest) st = fits (passes l.program test st) (run rest st)
   run (s.Term n ∷ rest) st = needs (slice_get st.terms n) (λ f. run rest (push f st))
   run (s.Build kind index n tail ∷ rest) st =
@@ -102,10 +108,12 @@ module _ (l : Language) (tree : ℕ → Option Formula) where
   run (s.NotWritten ∷ rest) st =
       needs (from_last 2 st.terms) (λ x. needs (from_last 1 st.terms) (λ f. run rest (replace 2 (none_of st.writes x f) st)))
   run (s.InRange ∷ rest) st = needs (from_last 1 st.terms) (λ x. run rest (replace 1 (range_facts st.declared x) st))
+  run (s.Fill n ∷ rest) st = needs st.body (λ f. run rest (replace n (fill (top n st.terms ++ st.keys) f) st))
+  run (s.FillBehind n ∷ rest) st = needs st.body (λ f. run rest (replace n (fill (st.keys ++ top n st.terms) f) st))
 
 -- nothing was taken
 abbrev pub start : State
-start = record { terms = []; writes = []; ty = 0; number = 0; place = Modes; keys = []; declared = Object }
+start = record { terms = []; writes = []; ty = 0; number = 0; place = Modes; keys = []; declared = Object; body = None }
 
 -- the number, where it isn't negative; 0 is no axiom's number
 abbrev pub natural : ℤ → ℕ
@@ -126,10 +134,6 @@ at row zs = option_and_then row (naturals zs)
 abbrev pub instance_at : Language → (ℕ → Option Formula) → ℤ → ℤ → List ℤ → Option Formula
 instance_at l tree axiom_number part = at (instance l tree (natural axiom_number) (natural part))
 
--- the axioms with formulas of annotations
-abbrev pub fills : ℕ → Bool
-fills n = (n == 1) || (n == 2) || (n == 14) || (n == 15)
-
--- the steps are the row of the axiom's part, which has no formula of an annotation
+-- the steps are the row of the axiom's part
 pub record IsRow (steps : List Step) (axiom_number part : ℕ) : Type 0 where
-  pub same : (l : Language) (tree : ℕ → Option Formula) (ns : List ℕ) → fills axiom_number ≡ false → run l tree steps start ns ≡ instance l tree axiom_number part ns
+  pub same : (l : Language) (tree : ℕ → Option Formula) (ns : List ℕ) → run l tree steps start ns ≡ instance l tree axiom_number part ns

@@ -9,11 +9,12 @@ use crate::steps::Behind::{Keys, Nothing, Writes};
 use crate::steps::Index::{Fixed, OfNumber, OfType};
 use crate::steps::Step;
 use crate::steps::Step::{
-    Build, Check, InRange, NotWritten, Take, TakeAny, TakeChange, TakeColumn, TakeFieldType,
-    TakeType, TakeWrites, Term,
+    Build, Check, Fill, FillBehind, InRange, NotWritten, Take, TakeAny, TakeChange, TakeColumn,
+    TakeConjunct, TakeFieldType, TakeInvariant, TakeQuantified, TakeType, TakeWrites, Term,
 };
 use crate::steps::Test::{
-    CleanHeap, CleanRead, HasFixedSet, IsApproved, IsContent, IsFixed, IsNotOwned, Unclaimable,
+    CleanHeap, CleanRead, HasFixedSet, IsApproved, IsContent, IsFixed, IsNotOwned, IsStruct,
+    Unclaimable,
 };
 use terms::sort::Sort;
 use terms::term::Kind;
@@ -94,6 +95,10 @@ const LISTS: Step = Build(Kind::Get, Fixed(4), 3, Nothing);
 
 const READ: Step = Build(Kind::Get, OfNumber, 2, Keys);
 
+const ALL: Step = Build(Kind::All, OfNumber, 0, Keys);
+
+const CEX: Step = Build(Kind::Cex, OfNumber, 0, Keys);
+
 const A: Step = Term(0);
 
 const B: Step = Term(1);
@@ -124,6 +129,18 @@ const CHANGE: Step = TakeChange;
 
 const FIELD_TYPE: Step = TakeFieldType;
 
+const QUANTIFIED: Step = TakeQuantified;
+
+const INVARIANT: Step = TakeInvariant;
+
+const CONJUNCT: Step = TakeConjunct;
+
+const FILLED: Step = Fill(1);
+
+const FILLED_OF_STEP: Step = Fill(3);
+
+const FILLED_BEHIND: Step = FillBehind(1);
+
 const UNWRITTEN: Step = NotWritten;
 
 const IN_RANGE: Step = InRange;
@@ -135,6 +152,8 @@ const CLEAN_READ: Step = Check(CleanRead);
 const UNCLAIMED: Step = Check(Unclaimable);
 
 const FIXED_SET: Step = Check(HasFixedSet);
+
+const STRUCT: Step = Check(IsStruct);
 
 const FIXED: Step = Check(IsFixed);
 
@@ -149,14 +168,14 @@ const NOT_OWNED: Step = Check(IsNotOwned);
 const AXIOMS: &[&[&[Step]]] = &[
     &[
         // a quantified formula gives its body for each reference
-        // the formula of an annotation, which isn't made here
-        &[],
+        &[QUANTIFIED, REF, ALL, A, FILLED_BEHIND, IMP],
     ],
     &[
-        // the formula of an annotation, which isn't made here
-        &[],
+        // it holds where its body holds of the least reference at which it could fail
+        &[QUANTIFIED, CEX, FILLED_BEHIND, ALL, IMP],
     ],
     &[
+        // NULL has type 0
         &[NULL, TYP, ZERO, EQ],
         // nothing else has
         &[REF, A, TYP, ZERO, EQ, A, NULL, EQ, IMP],
@@ -241,14 +260,58 @@ const AXIOMS: &[&[&[Step]]] = &[
     ],
     &[
         // the invariant of a struct's object gives what the annotation says
-        // the formula of an annotation, which isn't made here
-        &[],
-        // the formula of an annotation, which isn't made here
-        &[],
+        &[
+            HEAP,
+            HEAP,
+            REF,
+            TAKE_TYPE,
+            STRUCT,
+            INVARIANT,
+            C,
+            TYP,
+            TYPE,
+            EQ,
+            C,
+            A,
+            B,
+            INV,
+            C,
+            A,
+            B,
+            FILLED_OF_STEP,
+            IMP,
+            IMP,
+        ],
+        // and follows from it
+        &[
+            HEAP,
+            HEAP,
+            REF,
+            TAKE_TYPE,
+            STRUCT,
+            INVARIANT,
+            C,
+            TYP,
+            TYPE,
+            EQ,
+            C,
+            A,
+            B,
+            FILLED_OF_STEP,
+            C,
+            A,
+            B,
+            INV,
+            IMP,
+            IMP,
+        ],
     ],
     &[
-        // the formula of an annotation, which isn't made here
-        &[],
+        // in a good heap the conjuncts of a closed claim hold
+        &[
+            HEAP, REF, COLUMN, CONJUNCT, A, GOOD, A, B, MODE, TWO, EQ, A, B, READ, ONE, EQ, AND,
+            AND, A, FILLED, IMP,
+        ],
     ],
     &[&[REF, HEAP, HEAP, A, B, C, RELY, B, GOOD, C, GOOD, AND, IMP]],
     &[

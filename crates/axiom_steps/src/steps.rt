@@ -21,6 +21,12 @@ pub enum Step {
     TakeChange,
     /// the declared type of the column's field
     TakeFieldType,
+    /// a quantified formula, by the next number, with terms for its holes as keys
+    TakeQuantified,
+    /// the invariant of the type's objects
+    TakeInvariant,
+    /// the conjunct of the column's shape
+    TakeConjunct,
     /// what was taken passes the test
     Check(Test),
     /// the term that stands at this place
@@ -31,6 +37,10 @@ pub enum Step {
     NotWritten,
     /// the last formula is a value of the declared type
     InRange,
+    /// the annotation's formula, with so many of the last formulas for its constants, and the keys behind them
+    Fill(usize),
+    /// the same, with the formulas behind the keys
+    FillBehind(usize),
 }
 
 /// A test of what was taken.
@@ -44,6 +54,8 @@ pub enum Test {
     Unclaimable,
     /// the type is one whose owned sets are fixed while its objects are closed
     HasFixedSet,
+    /// the type is that of a struct's objects
+    IsStruct,
     /// a closed object of the type keeps the column
     IsFixed,
     /// the column is an approved field of the type

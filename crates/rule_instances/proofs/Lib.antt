@@ -1,0 +1,10 @@
+pub mod Bodies
+pub mod Going
+pub mod Heaps
+pub mod Numbered
+pub mod Onward
+pub mod Opening
+pub mod Passing
+pub mod Places
+pub mod Reading
+pub mod Replacing

@@ -1,0 +1,4 @@
+//! The language of a program in code.
+#![tactic(auto)]
+
+pub mod language;

@@ -1,0 +1,4 @@
+//! The sorts of a graph's nodes.
+#![tactic(auto)]
+
+pub mod table;
