@@ -12,7 +12,7 @@ use cert_format::certificate::{Refutation, RuleName, Step};
 use int_ranges::exact::Wide;
 use rule_equality::equivalence::{Reflexivity, Symmetry, Transitivity};
 use std::alloc::{AllocError, Global};
-use term_bank::bank::Bank;
+use term_graph::graph::Graph;
 use terms::term::{Clause, Literal};
 use vcc_rules::propositional::{Chain, Connective, Root};
 use vcc_rules::rule::{Clauses, Rule, Scratch};
@@ -21,12 +21,12 @@ use vcc_rules::rule::{Clauses, Rule, Scratch};
 #[tactic(auto, using(crate::proofs::Refutes::refutes))]
 pub fn check_one(
     alloc: Global,
-    terms: &Bank,
+    terms: &Graph,
     root: u32,
     block: &Refutation,
 ) -> Result<bool, AllocError>
-    ensures exact { IfOk result (λ yes. IsTrue yes ↔ Follows terms.now.terms root block.now.steps) }
-    ensures always { IfOk result (λ yes. IsTrue yes → (language : Language) → IsAlwaysTrue language terms.now.terms root) }
+    ensures exact { IfOk result (λ yes. IsTrue yes ↔ Follows terms.now root block.now.steps) }
+    ensures always { IfOk result (λ yes. IsTrue yes → (language : Language) → IsAlwaysTrue language terms.now root) }
 {
     let steps = block.steps();
     let clauses = clauses_of(alloc, root, steps)?;
@@ -37,10 +37,10 @@ pub fn check_one(
 }
 
 /// Whether the steps, whose clauses these are, refute that the condition is false.
-fn is_refutation(terms: &Bank, clauses: &Clauses, steps: &[Step], scratch: &mut Scratch) -> bool
+fn is_refutation(terms: &Graph, clauses: &Clauses, steps: &[Step], scratch: &mut Scratch) -> bool
     requires same { clauses.now.list.items ≡ map clause_of steps.now }
-    requires room { scratch.old ≡ length terms.now.terms }
-    ensures exact { (root : ℕ) → clauses.now.root ≡ Some root → IsTrue result ↔ Follows terms.now.terms root steps.now }
+    requires room { scratch.old ≡ length terms.now }
+    ensures exact { (root : ℕ) → clauses.now.root ≡ Some root → IsTrue result ↔ Follows terms.now root steps.now }
 {
     let list = clauses.list.as_slice();
     if !are_within(terms.len(), list) {
@@ -88,17 +88,17 @@ fn are_within(terms: usize, clauses: &[Clause]) -> bool
 
 /// Whether the row that the step names gives its clause from those of the first steps.
 fn is_given(
-    terms: &Bank,
+    terms: &Graph,
     clauses: &Clauses,
     below: usize,
     step: &Step,
     scratch: &mut Scratch,
 ) -> bool
     requires below { below ≤ length clauses.now.list.items }
-    requires within { AreWithin (length terms.now.terms) clauses.now.list.items }
-    requires clause_within { IsWithin (length terms.now.terms) step.now.clause }
-    requires room { scratch.old ≡ length terms.now.terms }
-    ensures rows { IsTrue result ↔ IsGiven terms.now.terms clauses.now.root clauses.now.list.items below step.now }
+    requires within { AreWithin (length terms.now) clauses.now.list.items }
+    requires clause_within { IsWithin (length terms.now) step.now.clause }
+    requires room { scratch.old ≡ length terms.now }
+    ensures rows { IsTrue result ↔ IsGiven terms.now clauses.now.root clauses.now.list.items below step.now }
     ensures room { scratch.new ≡ scratch.old }
 {
     let clause = step.clause.literals();
@@ -138,11 +138,11 @@ fn exact(answer: Result<bool, Wide>) -> bool
 }
 
 /// Whether each step is given from those before it.
-fn are_given(terms: &Bank, clauses: &Clauses, steps: &[Step], scratch: &mut Scratch) -> bool
+fn are_given(terms: &Graph, clauses: &Clauses, steps: &[Step], scratch: &mut Scratch) -> bool
     requires same { clauses.now.list.items ≡ map clause_of steps.now }
-    requires within { AreWithin (length terms.now.terms) clauses.now.list.items }
-    requires room { scratch.old ≡ length terms.now.terms }
-    ensures { IsTrue result ↔ ((i : ℕ) (s : AnyStep) → slice_get steps.now i ≡ Some s → IsGiven terms.now.terms clauses.now.root clauses.now.list.items i s) }
+    requires within { AreWithin (length terms.now) clauses.now.list.items }
+    requires room { scratch.old ≡ length terms.now }
+    ensures { IsTrue result ↔ ((i : ℕ) (s : AnyStep) → slice_get steps.now i ≡ Some s → IsGiven terms.now clauses.now.root clauses.now.list.items i s) }
 {
     for (i, step) in steps.iter().enumerate() {
         if !is_given(terms, clauses, i, step, scratch) {
