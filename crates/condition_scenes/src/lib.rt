@@ -1,0 +1,4 @@
+//! The conjuncts of claims as formulas.
+#![tactic(auto)]
+
+pub mod conjuncts;

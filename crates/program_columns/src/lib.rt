@@ -1,0 +1,4 @@
+//! The columns of a program's heaps.
+#![tactic(auto)]
+
+pub mod columns;

@@ -1,0 +1,4 @@
+pub mod Renaming
+pub mod Sorting
+pub mod Counting
+pub mod Rows

@@ -1,0 +1,5 @@
+use Rattle.condition_annotations.proofs.Done.{part_count}
+use Rattle.quantified_formulas.proofs.quantified.part_count.Goals as goal
+
+pub returns : goal.returns
+returns c = λ ts s h. part_count h

@@ -1,0 +1,4 @@
+pub mod Renumbering
+pub mod Sorts
+pub mod Forms
+pub mod Bodies
