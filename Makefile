@@ -7,10 +7,11 @@ CORES := $(shell nproc)
 
 .PHONY: run build install test check fmt
 
-# Judges the first example without proving anything first: about two minutes.
+# Judges the first example and replays the lock, without proving anything first: about two minutes.
 run:
 	@echo "unproved run; \`make test\` proves it"
 	@cd crates/vcc && rt try -- check $(EXAMPLES)/first.c $(EXAMPLES)/first.cert
+	@cd crates/vcc && rt try -- run $(EXAMPLES)/lock.c $(EXAMPLES)/lock.sched
 
 # Proves and builds the program and every crate below it, lowest first, on all cores: half an hour on four.
 build:

@@ -63,7 +63,7 @@ const ROWS: &[(&str, &str, &str, u8)] = &[
     (TYPING, NONE_CERT, "source 11:6: rule 1\n", 3),
 ];
 
-const USAGE: &str = "usage: vcc check SOURCE CERT\n";
+const USAGE: &str = "usage: vcc check SOURCE CERT, run SOURCE SCHEDULE\n";
 
 /// Names with the texts that they hold.
 type Held<'a> = &'a [(&'a str, &'a str)];
@@ -154,6 +154,14 @@ const NO_COMMANDS: &[&[&str]] = &[
     &["check", "s.c", "c", "x"],
     &["check", "s.c", "C", "x"],
     &["frobnicate"],
+    &["run"],
+    &["run", "s.c"],
+    &["run", "s.c", "C", "x"],
+    &["run", "s.c", "-C"],
+    &["run", "-s.c", "C"],
+    &["run", "", "C"],
+    &["run", "s.c", ""],
+    &["Run", "s.c", "C"],
     &["verify", "s.c", "C"],
     &["check", "", "C"],
     &["check", "s.c", ""],

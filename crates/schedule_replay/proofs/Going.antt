@@ -1,7 +1,7 @@
 -- What is still to be printed of a replay, and what the next event adds.
 use Rattle.std.proofs.Common.{◌≡◌, ℕ, ◌+◌, List, [], ◌∷◌, ◌++◌, Option, Some, None, refl, sym, ap, subst, ◌∙◌, append_assoc}
 use Rattle.vcc_base.specs.Maps.{NowWritten, FrontWritten}
-use Rattle.schedule_replay.proofs.Printing.{then_written, is_written, is_front, front_more, front_first}
+use Rattle.vcc_base.proofs.Printing.{then_written, is_written, is_front, front_more, front_first}
 use Rattle.method.specs.declared.program.CheckKind.{CheckKind}
 use Rattle.method.specs.declared.program.Program.{Program}
 use Rattle.method.specs.Overflow.{Overflow}

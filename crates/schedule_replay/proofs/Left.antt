@@ -4,7 +4,7 @@ use Rattle.std.proofs.lemmas.List.{append-nil, drop_more}
 use Rattle.std.specs.List.{flat_map}
 use Rattle.std.proofs.Math.Seq.{take-length}
 use Rattle.vcc_base.specs.Maps.{NowWritten, FrontWritten}
-use Rattle.schedule_replay.proofs.Printing.{then_written, is_written, is_front, front_first, front_more}
+use Rattle.vcc_base.proofs.Printing.{then_written, is_written, is_front, front_first, front_more}
 
 -- a front of the whole text is written, and this is left of it
 abbrev pub Left : Option (List ℕ) → Option (List ℕ) → List ℕ → List ℕ → Type 0

@@ -1,4 +1,3 @@
-pub mod Printing
 pub mod Left
 pub mod Texts
 pub mod Onward

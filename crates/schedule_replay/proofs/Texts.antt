@@ -14,7 +14,7 @@ use Rattle.object_types.specs.declared.references.Ref.{Ref}
 use Rattle.schedule_format.specs.Text.{reference_text}
 use Rattle.std.proofs.lemmas.Result.{on_ok_weaker, on_err_weaker}
 use Rattle.vcc_base.specs.Maps.{NowWritten, FrontWritten}
-use Rattle.schedule_replay.proofs.Printing.{then_written, front_more}
+use Rattle.vcc_base.proofs.Printing.{then_written, front_more}
 use Rattle.vcc_base.specs.declared.sink.SinkFault.{SinkFault}
 use Rattle.schedule_replay.specs.Printing.{Writes, Front}
 use Rattle.schedule_replay.specs.Pieces.{ref_text}

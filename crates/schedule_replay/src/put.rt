@@ -8,7 +8,7 @@ use machine_values::tables::THREADS;
 use object_types::references::Ref;
 use object_types::values::Value;
 use vcc_base::sink::{Sink, SinkFault};
-use vcc_base::whole::{put_all, put_number};
+use vcc_base::whole::{put_all, put_natural, put_number};
 
 /// A piece of a line.
 #[derive(Clone, Copy)]
@@ -32,16 +32,6 @@ pub fn value_piece<'a>(value: Value) -> Piece<'a>
         Value::Int(number) => Piece::Integer(number),
         Value::Ref(reference) => Piece::Reference(reference),
     }
-}
-
-/// A natural number in decimal.
-fn put_natural<O: Sink>(out: &mut O, number: u64) -> Result<(), SinkFault>
-    ensures ok { Writes result (O.written out.old) (O.written out.new) (decimal number) }
-    ensures err { Front result (O.written out.old) (O.written out.new) (decimal number) }
-    ensures failed { IsErrOf result SinkFault.Failed → O.faults out.old < O.faults out.new }
-    ensures never_falls { O.faults out.old ≤ O.faults out.new }
-{
-    put_number(out, i128::from(number))
 }
 
 /// A natural number of 32 bits in decimal.

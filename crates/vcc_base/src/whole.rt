@@ -1,6 +1,6 @@
 //! Whole reads and writes.
 
-ghost use Rattle.std.specs.Prelude.{◌≡◌, ◌⊎◌, ◌<◌, ◌≤◌, ◌++◌, [], length, take, Some, IsNone, IsErrOf, IfOk, OnOk, OnErr, vec_len};
+ghost use Rattle.std.specs.Prelude.{◌≡◌, ◌⊎◌, ◌<◌, ◌≤◌, ◌++◌, [], length, take, Some, IsNone, IsErrOf, IfOk, OnOk, OnErr, decimal, vec_len};
 ghost use Rattle.std.specs.Fmt.{signed_decimal};
 ghost use Rattle.vcc_base.specs.Limits.{number_of};
 ghost use Rattle.vcc_base.specs.Maps.{Map, IfTold, IfHeld, NowHolds, FrontHeld, NowWritten, FrontWritten};
@@ -122,6 +122,16 @@ pub fn put_number<O: Sink>(out: &mut O, n: i128) -> Result<(), SinkFault>
 {
     let mut buffer = Buffer::new();
     put_all(out, buffer.format(n).as_bytes())
+}
+
+/// A natural number in decimal, written as `put_all` does.
+pub fn put_natural<O: Sink>(out: &mut O, number: u64) -> Result<(), SinkFault>
+    ensures ok { OnOk result (NowWritten (O.written out.old) (O.written out.new) (decimal number)) }
+    ensures err { OnErr result (FrontWritten (O.written out.old) (O.written out.new) (decimal number)) }
+    ensures failed { IsErrOf result SinkFault.Failed → O.faults out.old < O.faults out.new }
+    ensures never_falls { O.faults out.old ≤ O.faults out.new }
+{
+    put_number(out, i128::from(number))
 }
 
 /// Puts the piece behind the bytes of the name; after a fault a front of it is there, and no more.

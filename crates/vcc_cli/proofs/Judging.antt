@@ -49,14 +49,6 @@ left_none f checks blocks i lx lb left = (
   left.valid (rw (none_left checks i lx) tt),
 )
 
--- a list of three
-pub three : {X : Type 0} (xs : List X) (a b c : X) → length xs ≡ 3 → a ≡ get_or xs 0 a → b ≡ get_or xs 1 b → c ≡ get_or xs 2 c → xs ≡ a ∷ b ∷ c ∷ []
-three [] a b c n p q r = absurd (omega arith)
-three (x ∷ []) a b c n p q r = absurd (omega arith)
-three (x ∷ y ∷ []) a b c n p q r = absurd (omega arith)
-three (x ∷ y ∷ z ∷ []) a b c n p q r = cc
-three (x ∷ y ∷ z ∷ w ∷ xs) a b c n p q r = absurd (omega arith)
-
 pub valid_at : (cs : List Check) → AllValid cs → (n : ℕ) (f : Formula) → slice_get (map condition cs) n ≡ Some f → IsValid f
 valid_at [] h n f g = cc
 valid_at (c ∷ cs) h zero f g = let e : condition c ≡ f = cc in subst IsValid e h.0

@@ -1,5 +1,6 @@
 pub mod Judging
 pub mod Reading
-pub mod Printing
 pub mod Runs
 pub mod Programs
+pub mod Words
+pub mod Replaying

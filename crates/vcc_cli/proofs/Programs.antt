@@ -14,7 +14,9 @@ use Rattle.first_form.specs.Tree.{Prog, stms_count}
 use Rattle.tree_heights.specs.Parts.{all, parameter, parts}
 use Rattle.first_program.specs.Form.{program_of, parameter_count, few}
 use Rattle.first_program.specs.Reads.{IsFirstForm}
-use Rattle.vcc_cli.specs.Source.{BreaksFirst, IsUnbuilt}
+use Rattle.vcc_cli.specs.declared.refusal.Refusal.{Refusal}
+use Rattle.vcc_cli.specs.declared.refusal.Refusal.TheVariants.{NotBuilt}
+use Rattle.vcc_cli.specs.Source.{BreaksFirst, IsUnbuilt, IsSourceRefusalOrMemory, IsUntyped}
 
 few_of : (out : Option Prog) (p : Prog) → few out ≡ Some p → (out ≡ Some p) × (stms_count p.body ≤ 200)
 few_of None p e = absurd cc
@@ -27,6 +29,11 @@ few_of (Some q) p e = go (nat_le (stms_count q.body) 200) refl e
 few_is : (out : Option Prog) (p : Prog) → out ≡ Some p → stms_count p.body ≤ 200 → few out ≡ Some p
 few_is None p e le = absurd cc
 few_is (Some q) p e le = let same : q ≡ p = cc in ap (λ (b : Bool). cond b (Some q) None) (true_le (stms_count q.body) 200 (subst (λ (r : Prog). stms_count r.body ≤ 200) (sym same) le)) ∙ e
+
+-- who asks for less is refused for no other reason
+pub untyped_refused : (bytes : List ℕ) (r : Refusal) → IsUntyped bytes r → IsSourceRefusalOrMemory bytes r
+untyped_refused bytes NotBuilt x = absurd x
+untyped_refused bytes _ x = x
 
 -- a text whose first broken rule is this one
 pub breaks_first : (bytes : List ℕ) (items : List Item) (end : Span) (b : Violation) (text : IsText bytes items end) → IsWithinLimits text → first_broken items end ≡ Some (broken b) → BreaksFirst bytes b

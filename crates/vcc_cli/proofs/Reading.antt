@@ -8,7 +8,7 @@ use Rattle.vcc_base.specs.Maps.{Map}
 use Rattle.vcc_base.specs.declared.limit.Limit.TheVariants.{SourceBytes}
 use Rattle.vcc_cli.specs.declared.judge.Verdict.{Verdict}
 use Rattle.vcc_cli.specs.declared.refusal.Refusal.{Refusal}
-use Rattle.vcc_cli.specs.declared.refusal.Refusal.TheVariants.{Usage, BadByte, BadNumber, OpenComment, Unexpected, UnknownForm, BreaksRule, NotBuilt, Refused, Limit, Missing, ReadFault, OutOfMemory}
+use Rattle.vcc_cli.specs.declared.refusal.Refusal.TheVariants.{Usage, BadByte, BadNumber, OpenComment, Unexpected, UnknownForm, BreaksRule, NotBuilt, Refused, BadSchedule, BadArgs, Wide, Exhausted, Limit, Missing, ReadFault, OutOfMemory}
 use Rattle.vcc_cli.specs.Source.{IsSourceRefusal, IsSourceRefusalOrMemory}
 use Rattle.vcc_cli.specs.Accepts.{AllValid}
 use Rattle.vcc_cli.specs.Answer.{HoldsWithin, IsCertAnswer, IsCheckAnswer, IsProgramOf, IsSafeAnswer}
@@ -38,6 +38,10 @@ refused_answer m source_name cert_name source text refusal held is refused = inr
     split (BreaksRule b) x = inl (BreaksRule b, refl, x)
     split NotBuilt x = inl (NotBuilt, refl, x)
     split Refused x = absurd x
+    split (BadSchedule n f) x = absurd x
+    split BadArgs x = absurd x
+    split (Wide w) x = absurd x
+    split Exhausted x = absurd x
     split (Limit l) x = inl (Limit l, refl, x)
     split (Missing n) x = absurd x
     split (ReadFault n) x = absurd x

@@ -23,10 +23,10 @@ use Rattle.vcc_cli.specs.declared.judge.Label.{Label}
 use Rattle.vcc_cli.specs.declared.judge.Verdict.{Verdict}
 use Rattle.vcc_cli.specs.declared.judge.Verdict.TheVariants.{Yes, No}
 use Rattle.vcc_cli.specs.declared.refusal.Refusal.{Refusal}
-use Rattle.vcc_cli.specs.declared.refusal.Refusal.TheVariants.{Usage, BadByte, BadNumber, OpenComment, Unexpected, UnknownForm, BreaksRule, NotBuilt, Refused, Limit, Missing, ReadFault, OutOfMemory}
+use Rattle.vcc_cli.specs.declared.refusal.Refusal.TheVariants.{Usage, BadByte, BadNumber, OpenComment, Unexpected, UnknownForm, BreaksRule, NotBuilt, Refused, BadSchedule, BadArgs, Wide, Exhausted, Limit, Missing, ReadFault, OutOfMemory}
 use Rattle.vcc_cli.specs.Command.{IsCheck}
 use Rattle.vcc_cli.specs.Accepts.{Accepts, AllFollow}
-use Rattle.vcc_cli.specs.Answer.{AreJudged, FirstNot, HoldsTooMuch, IsAccepted, IsAnswer, IsCertAnswer, IsCertificateOf, IsCheckAnswer, IsCheckOf, IsProgramOf, IsSafeAnswer, IsSafeSource, IsUnread, IsUnreadAnswer, SourceIsSafe}
+use Rattle.vcc_cli.specs.Answer.{AreJudged, FirstNot, HoldsTooMuch, IsAccepted, IsAnswer, IsCertAnswer, IsCertificateOf, IsCheckAnswer, IsCheckOf, IsNoCommand, IsProgramOf, IsSafeAnswer, IsSafeSource, IsUnread, IsUnreadAnswer, SourceIsSafe}
 use Rattle.vcc_cli.specs.Source.{BreaksFirst, IsSourceRefusal}
 use Rattle.vcc_cli.specs.Faults.{IsReadFault}
 use Rattle.vcc_cli.specs.Lines.{IsReported, Written, status_of}
@@ -49,6 +49,10 @@ yes_has_zero (Err (UnknownForm place)) e = absurd (omega arith)
 yes_has_zero (Err (BreaksRule b)) e = absurd (omega arith)
 yes_has_zero (Err NotBuilt) e = absurd (omega arith)
 yes_has_zero (Err Refused) e = absurd (omega arith)
+yes_has_zero (Err (BadSchedule n f)) e = absurd (omega arith)
+yes_has_zero (Err BadArgs) e = absurd (omega arith)
+yes_has_zero (Err (Wide w)) e = absurd (omega arith)
+yes_has_zero (Err Exhausted) e = absurd (omega arith)
 yes_has_zero (Err (Limit limit)) e = absurd (omega arith)
 yes_has_zero (Err (Missing name)) e = absurd (omega arith)
 yes_has_zero (Err (ReadFault name)) e = absurd (omega arith)
@@ -127,7 +131,7 @@ pub check_run : (m : Map) (words : List (List ℕ)) (source_name cert_name : Lis
 check_run m words source_name cert_name answer reads w status command answers fault reported =
     record { answer = answer; answers = inr (source_name, cert_name, command, answers); fault = fault; reported = reported }
 
-pub usage_run : (m : Map) (words : List (List ℕ)) (reads : ReadCounts) (w : Written) (status : ℕ) → ((source_name cert_name : List ℕ) → IsCheck words source_name cert_name → ⊥) → IsReported (Err Usage) w status → IsRun m words reads w status
+pub usage_run : (m : Map) (words : List (List ℕ)) (reads : ReadCounts) (w : Written) (status : ℕ) → IsNoCommand words → IsReported (Err Usage) w status → IsRun m words reads w status
 usage_run m words reads w status none reported =
     record { answer = Err Usage; answers = inl (refl, none); fault = λ impossible. absurd impossible; reported = reported }
 
@@ -148,6 +152,10 @@ read_faults_only m name limit bytes (UnknownForm place) held within unread = abs
 read_faults_only m name limit bytes (BreaksRule b) held within unread = absurd unread
 read_faults_only m name limit bytes NotBuilt held within unread = absurd unread
 read_faults_only m name limit bytes Refused held within unread = absurd unread
+read_faults_only m name limit bytes (BadSchedule n f) held within unread = absurd unread
+read_faults_only m name limit bytes BadArgs held within unread = absurd unread
+read_faults_only m name limit bytes (Wide w) held within unread = absurd unread
+read_faults_only m name limit bytes Exhausted held within unread = absurd unread
 read_faults_only m name limit bytes (Limit l) held within unread =
     let too_much : HoldsTooMuch m name limit = unread.1 in
     let same : too_much.0 ≡ bytes = one_value (m name) too_much.0 bytes too_much.1 held in
@@ -187,6 +195,10 @@ judged_yes checks blocks (Err (UnknownForm place)) follow judged = absurd judged
 judged_yes checks blocks (Err (BreaksRule b)) follow judged = absurd judged
 judged_yes checks blocks (Err NotBuilt) follow judged = absurd judged
 judged_yes checks blocks (Err Refused) follow judged = absurd (judged (as_many checks blocks follow))
+judged_yes checks blocks (Err (BadSchedule n f)) follow judged = absurd judged
+judged_yes checks blocks (Err BadArgs) follow judged = absurd judged
+judged_yes checks blocks (Err (Wide w)) follow judged = absurd judged
+judged_yes checks blocks (Err Exhausted) follow judged = absurd judged
 judged_yes checks blocks (Err (Limit l)) follow judged = absurd judged
 judged_yes checks blocks (Err (Missing n)) follow judged = absurd judged
 judged_yes checks blocks (Err (ReadFault n)) follow judged = absurd judged
@@ -228,6 +240,10 @@ not_refused source p refusal form refused = go refusal refused
     go (BreaksRule b) x = broken_form source b p form x
     go NotBuilt x = x.other p form
     go Refused x = x
+    go (BadSchedule n f) x = x
+    go BadArgs x = x
+    go (Wide w) x = x
+    go Exhausted x = x
     go (Limit SourceBytes) x = x
     go (Limit ScheduleBytes) x = x
     go (Limit Tokens) x = none (f.TooManyTokens x.0) x.1
@@ -266,7 +282,7 @@ one_pair words a b c d first second =
     (cc both, cc both)
 
 answer_yes : (m : Map) (words : List (List ℕ)) (source cert : List ℕ) (answer : Result Verdict Refusal) (accepts : Accepts source cert) (names : IsCheckOf m words source cert) → length cert ≤ number_of CertBytes → IsFirstForm source accepts.program → IsAnswer m words answer → IsYesOrFault answer
-answer_yes m words source cert answer accepts names within form (inl none) = absurd (none.1 names.source_name names.cert_name names.command)
+answer_yes m words source cert answer accepts names within form (inl none) = absurd (none.1.no_check names.source_name names.cert_name names.command)
 answer_yes m words source cert answer accepts names within form (inr found) =
     let same = one_pair words names.source_name names.cert_name found.0 found.1 names.command found.2 in
     check_yes m found.0 found.1 source cert answer accepts

@@ -15,7 +15,7 @@ use Rattle.vcc_cli.specs.declared.judge.Verdict.{Verdict}
 use Rattle.vcc_cli.specs.declared.judge.Verdict.TheVariants.{Yes, No}
 use Rattle.vcc_cli.specs.declared.refusal.Refusal.{Refusal}
 use Rattle.vcc_cli.specs.declared.refusal.Refusal.TheVariants.{Usage, Refused, Limit, Missing, ReadFault, OutOfMemory}
-use Rattle.vcc_cli.specs.Command.{IsCheck}
+use Rattle.vcc_cli.specs.Command.{IsCheck, IsRunCommand}
 use Rattle.vcc_cli.specs.Accepts.{Accepts, AllFollow, FollowsBy}
 use Rattle.vcc_cli.specs.Source.{IsSourceRefusal}
 
@@ -123,7 +123,12 @@ pub record IsSourceAnswer (m : Map) (source_name cert_name : List ℕ) (answer :
 abbrev pub IsCheckAnswer : Map → List ℕ → List ℕ → Result Verdict Refusal → Type 0
 IsCheckAnswer m source_name cert_name answer = IsUnreadAnswer m source_name SourceBytes answer ⊎ IsSourceAnswer m source_name cert_name answer
 
--- the words are no check, or the answer is that of a check of their names
+-- the words are no command
+pub record IsNoCommand (words : List (List ℕ)) : Type 0 where
+  pub no_check : (source cert : List ℕ) → IsCheck words source cert → ⊥
+  pub no_run : (source schedule : List ℕ) → IsRunCommand words source schedule → ⊥
+
+-- the words are no command, or the answer is that of a check of their names
 abbrev pub IsAnswer : Map → List (List ℕ) → Result Verdict Refusal → Type 0
 IsAnswer m words answer =
-    ((answer ≡ Err Usage) × ((source cert : List ℕ) → IsCheck words source cert → ⊥)) ⊎ ((source cert : List ℕ) × IsCheck words source cert × IsCheckAnswer m source cert answer)
+    ((answer ≡ Err Usage) × IsNoCommand words) ⊎ ((source cert : List ℕ) × IsCheck words source cert × IsCheckAnswer m source cert answer)

@@ -10,8 +10,16 @@ texts = map string_bytes
 abbrev pub IsName : List ℕ → Type 0
 IsName word = (0 < length word) × (slice_index word 0 ≢ 45)
 
--- the words are `check SOURCE CERT`, with these names
-pub record IsCheck (words : List (List ℕ)) (source cert : List ℕ) : Type 0 where
-  pub are : words ≡ codes "check" ∷ source ∷ cert ∷ []
-  pub source_name : IsName source
-  pub cert_name : IsName cert
+-- the words are this command with these two names
+pub record IsNamedPair (command : List ℕ) (words : List (List ℕ)) (first second : List ℕ) : Type 0 where
+  pub are : words ≡ command ∷ first ∷ second ∷ []
+  pub first_name : IsName first
+  pub second_name : IsName second
+
+-- `check SOURCE CERT`
+abbrev pub IsCheck : List (List ℕ) → List ℕ → List ℕ → Type 0
+IsCheck words source cert = IsNamedPair (codes "check") words source cert
+
+-- `run SOURCE SCHEDULE`
+abbrev pub IsRunCommand : List (List ℕ) → List ℕ → List ℕ → Type 0
+IsRunCommand words source schedule = IsNamedPair (codes "run") words source schedule

@@ -6,3 +6,4 @@ pub mod Verdicts
 pub mod Faults
 pub mod Lines
 pub mod Run
+pub mod Replays

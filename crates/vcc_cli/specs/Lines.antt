@@ -1,5 +1,6 @@
 -- What is printed for an answer, and its status.
-use Rattle.std.specs.Prelude.{◌≡◌, ◌⊎◌, ℕ, ◌<◌, List, [], ◌∷◌, ◌++◌, Option, Result, Ok, Err, codes, decimal}
+use Rattle.std.specs.Prelude.{◌≡◌, ◌⊎◌, ℕ, ℤ, ◌<◌, List, [], ◌∷◌, ◌++◌, Option, Result, Ok, Err, codes, decimal}
+use Rattle.std.specs.Fmt.{signed_decimal}
 use Rattle.c_syntax.specs.declared.token.Span.{Span}
 use Rattle.typing_spec.specs.Rules.{number}
 use Rattle.typing_expressions.specs.Views.{rule}
@@ -8,7 +9,9 @@ use Rattle.vcc_base.specs.Limits.{number_of, name_of}
 use Rattle.vcc_cli.specs.declared.judge.Verdict.{Verdict}
 use Rattle.vcc_cli.specs.declared.judge.Verdict.TheVariants.{Yes, No}
 use Rattle.vcc_cli.specs.declared.refusal.Refusal.{Refusal}
-use Rattle.vcc_cli.specs.declared.refusal.Refusal.TheVariants.{Usage, BadByte, BadNumber, OpenComment, Unexpected, UnknownForm, BreaksRule, NotBuilt, Refused, Limit, Missing, ReadFault, OutOfMemory}
+use Rattle.vcc_cli.specs.declared.refusal.Refusal.TheVariants.{Usage, BadByte, BadNumber, OpenComment, Unexpected, UnknownForm, BreaksRule, NotBuilt, Refused, BadSchedule, BadArgs, Wide, Exhausted, Limit, Missing, ReadFault, OutOfMemory}
+use Rattle.vcc_cli.specs.declared.refusal.LineFault.{LineFault}
+use Rattle.vcc_cli.specs.declared.refusal.LineFault.TheVariants as line_fault
 
 -- a line of this text
 abbrev pub line : List ℕ → List ℕ
@@ -22,11 +25,27 @@ place_text place = decimal place.line ++ (codes ":" ++ decimal place.column)
 abbrev pub source_line : Span → List ℕ → ℕ → List ℕ
 source_line place stage n = codes "source " ++ (place_text place ++ (codes ": " ++ (stage ++ (codes " " ++ line (decimal n)))))
 
+-- the name of what is wrong with a line of a schedule
+abbrev pub fault_name : LineFault → List ℕ
+fault_name line_fault.BadLine = codes "BadLine"
+fault_name line_fault.BadNumber = codes "BadNumber"
+fault_name line_fault.CutShort = codes "CutShort"
+fault_name line_fault.Trailing = codes "Trailing"
+fault_name line_fault.CountOver = codes "CountOver"
+
+-- a fault of a schedule: its line, and what is wrong with it
+abbrev pub schedule_line : ℕ → LineFault → List ℕ
+schedule_line n fault = codes "schedule line " ++ (decimal n ++ (codes ": " ++ line (fault_name fault)))
+
+-- a value that would leave 128 bits: the operands of its operation
+abbrev pub wide_line : ℤ → ℤ → List ℕ
+wide_line left right = codes "limit: Wide " ++ (signed_decimal left ++ (codes " " ++ line (signed_decimal right)))
+
 -- the line of an answer
 abbrev pub line_of : Result Verdict Refusal → List ℕ
 line_of (Ok Yes) = line (codes "yes")
 line_of (Ok (No label)) = codes "no: main/" ++ (decimal label.ordinal ++ (codes " Assert line " ++ line (decimal label.line)))
-line_of (Err Usage) = line (codes "usage: vcc check SOURCE CERT")
+line_of (Err Usage) = line (codes "usage: vcc check SOURCE CERT, run SOURCE SCHEDULE")
 line_of (Err (BadByte place)) = source_line place (codes "token") 1
 line_of (Err (BadNumber place)) = source_line place (codes "token") 2
 line_of (Err (OpenComment place)) = source_line place (codes "token") 3
@@ -35,6 +54,10 @@ line_of (Err (UnknownForm place)) = source_line place (codes "syntax") 2
 line_of (Err (BreaksRule broken)) = source_line broken.span (codes "rule") (number (rule broken.rule))
 line_of (Err NotBuilt) = line (codes "source: not built")
 line_of (Err Refused) = line (codes "certificate: refused")
+line_of (Err (BadSchedule n fault)) = schedule_line n fault
+line_of (Err BadArgs) = line (codes "schedule: BadArgs")
+line_of (Err (Wide w)) = wide_line w.a w.b
+line_of (Err Exhausted) = line (codes "limit: Serials 4294967295")
 line_of (Err (Limit limit)) = codes "limit: " ++ (name_of limit ++ (codes " " ++ line (decimal (number_of limit))))
 line_of (Err (Missing name)) = codes "missing: " ++ line name.now
 line_of (Err (ReadFault name)) = codes "read fault: " ++ line name.now
@@ -53,6 +76,10 @@ status_of (Err (UnknownForm place)) = 3
 status_of (Err (BreaksRule broken)) = 3
 status_of (Err NotBuilt) = 3
 status_of (Err Refused) = 4
+status_of (Err (BadSchedule n fault)) = 3
+status_of (Err BadArgs) = 3
+status_of (Err (Wide w)) = 5
+status_of (Err Exhausted) = 5
 status_of (Err (Limit limit)) = 5
 status_of (Err (Missing name)) = 6
 status_of (Err (ReadFault name)) = 6
@@ -64,6 +91,10 @@ pub record Written : Type 0 where
   pub faults_after : ℕ
   pub before : Option (List ℕ)
   pub after : Option (List ℕ)
+
+-- these counts, and these bytes
+abbrev pub wrote : ℕ → ℕ → Option (List ℕ) → Option (List ℕ) → Written
+wrote m n old new = record { faults_before = m; faults_after = n; before = old; after = new }
 
 -- The answer's line is written, and the status is its own; or a front of the line is written, and a write failed, with status 7, or memory was wanted, with status 8.
 abbrev pub IsReported : Result Verdict Refusal → Written → ℕ → Type 0

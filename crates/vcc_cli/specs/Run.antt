@@ -12,6 +12,10 @@ pub record ReadCounts : Type 0 where
   pub reads_before : ℕ
   pub reads_after : ℕ
 
+-- these counts
+abbrev pub read_counts : ℕ → ℕ → ReadCounts
+read_counts m n = record { reads_before = m; reads_after = n }
+
 -- The answer of the words is reported; it is a read fault only where a read failed.
 pub record IsRun (m : Map) (words : List (List ℕ)) (reads : ReadCounts) (written : Written) (status : ℕ) : Type 0 where
   pub answer : Result Verdict Refusal

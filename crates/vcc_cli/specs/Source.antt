@@ -47,3 +47,8 @@ IsSourceRefusal source _ = ⊥
 abbrev pub IsSourceRefusalOrMemory : List ℕ → Refusal → Type 0
 IsSourceRefusalOrMemory source OutOfMemory = Unit {0}
 IsSourceRefusalOrMemory source refusal = IsSourceRefusal source refusal
+
+-- the refusal of a source whose typed program is asked for, of whatever form it is; or memory is wanted
+abbrev pub IsUntyped : List ℕ → Refusal → Type 0
+IsUntyped source NotBuilt = ⊥
+IsUntyped source refusal = IsSourceRefusalOrMemory source refusal

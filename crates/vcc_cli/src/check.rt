@@ -21,7 +21,7 @@ use vcc_base::store::Store;
 use vcc_base::whole::{ReadFault, read_whole};
 
 /// All bytes of the name.
-fn read<'a, S: Store>(
+pub fn read<'a, S: Store>(
     alloc: Global,
     store: &mut S,
     name: &'a str,

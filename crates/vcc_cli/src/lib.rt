@@ -8,5 +8,6 @@ mod main_call;
 pub mod program;
 pub mod refusal;
 pub mod report;
+mod run;
 
 pub use main_call::vcc_main;

@@ -7,7 +7,8 @@ ghost use Rattle.c_source.specs.Sources.{IsFaultOrMemory, IsText, IsWithinLimits
 ghost use Rattle.tree_heights.specs.Parts.{parts};
 ghost use Rattle.first_form.specs.Tree.{Prog, program as read_as};
 ghost use Rattle.first_program.specs.Reads.{IsFirstForm};
-ghost use Rattle.vcc_cli.specs.Source.{IsSourceRefusalOrMemory};
+ghost use Rattle.c_types.specs.Typed.{IsProgramOf};
+ghost use Rattle.vcc_cli.specs.Source.{IsSourceRefusalOrMemory, IsUntyped};
 
 use crate::refusal::Refusal;
 use c_reader::read_source;
@@ -17,6 +18,7 @@ use c_types::typing::{TypeFault, type_program};
 use first_form::tree::Program;
 use first_program::fault::FormFault;
 use first_program::program_of;
+use method::program::Program as TypedProgram;
 use std::alloc::Global;
 use vcc_base::limit::Limit;
 
@@ -25,7 +27,7 @@ const MOST_BYTES: usize = 65536;
 
 /// The refusal of a source with this fault.
 fn refusal_of<'a>(fault: SourceFault) -> Refusal<'a>
-    ensures { (bytes : List ℕ) → IsFaultOrMemory bytes fault → IsSourceRefusalOrMemory bytes result }
+    ensures { (bytes : List ℕ) → IsFaultOrMemory bytes fault → IsUntyped bytes result }
 {
     match fault {
         SourceFault::BadByte(place) => Refusal::BadByte(place),
@@ -39,19 +41,34 @@ fn refusal_of<'a>(fault: SourceFault) -> Refusal<'a>
     }
 }
 
+/// The typed program of a tree, or the refusal by the first typing rule that it breaks.
+fn program_of_tree<'a>(alloc: Global, tree: &Tree) -> Result<TypedProgram, Refusal<'a>>
+    ensures typed { OnOk result (IsWellTyped (items_of tree.now) tree.now.end) }
+    ensures program { (bytes : List ℕ) → IsText bytes (items_of tree.now) tree.now.end →
+        IfOk result (IsProgramOf bytes) }
+    ensures refused { (bytes : List ℕ) (text : IsText bytes (items_of tree.now) tree.now.end) → IsWithinLimits text →
+        IfErr result (IsUntyped bytes) }
+{
+    match type_program(alloc, tree) {
+        Ok(program) => Ok(program),
+        Err(TypeFault::Rule(broken)) => Err(Refusal::BreaksRule(broken)),
+        Err(TypeFault::OutOfMemory) => Err(Refusal::OutOfMemory),
+    }
+}
+
 /// Whether the tree breaks no typing rule, or the refusal by the first that it breaks.
 fn well_typed<'a>(alloc: Global, tree: &Tree) -> Result<(), Refusal<'a>>
     ensures typed { OnOk result (IsWellTyped (items_of tree.now) tree.now.end) }
-    ensures refused { (bytes : List ℕ) (text : IsText bytes (items_of tree.now) tree.now.end) → IsWithinLimits text → IfErr result (IsSourceRefusalOrMemory bytes) }
+    ensures refused { (bytes : List ℕ) (text : IsText bytes (items_of tree.now) tree.now.end) → IsWithinLimits text →
+        IfErr result (IsSourceRefusalOrMemory bytes) }
 {
-    match type_program(alloc, tree) {
-        Ok(tables) => {
-            // Nothing is judged by them yet.
-            drop(tables);
+    match program_of_tree(alloc, tree) {
+        Ok(program) => {
+            // Conditions aren't made of it yet.
+            drop(program);
             Ok(())
         }
-        Err(TypeFault::Rule(broken)) => Err(Refusal::BreaksRule(broken)),
-        Err(TypeFault::OutOfMemory) => Err(Refusal::OutOfMemory),
+        Err(refusal) => Err(refusal),
     }
 }
 
@@ -91,5 +108,21 @@ pub fn read_program<'a>(alloc: Global, bytes: &[u8]) -> Result<Program, Refusal<
         Ok(program) => Ok(program),
         Err(FormFault::NotBuilt) => Err(Refusal::NotBuilt),
         Err(FormFault::OutOfMemory) => Err(Refusal::OutOfMemory),
+    }
+}
+
+/// The typed program of the bytes, or why they have none.
+pub fn typed_program<'a>(alloc: Global, bytes: &[u8]) -> Result<TypedProgram, Refusal<'a>>
+    requires { length bytes.now ≤ 1048576 }
+    ensures typed { IfOk result (IsProgramOf bytes.now) }
+    ensures refused { IfErr result (IsUntyped bytes.now) }
+{
+    let tree = match read_source(alloc, bytes) {
+        Ok(tree) => tree,
+        Err(fault) => return Err(refusal_of(fault)),
+    };
+    match program_of_tree(alloc, &tree) {
+        Ok(program) => Ok(program),
+        Err(refusal) => Err(refusal),
     }
 }

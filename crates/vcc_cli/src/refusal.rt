@@ -1,8 +1,19 @@
 //! Why a command gives no verdict.
 
 use c_syntax::token::Span;
+use int_ranges::exact::Wide;
 use typing_expressions::violations::Violation;
 use vcc_base::limit::Limit;
+
+/// What is wrong with a line of a schedule.
+#[derive(Clone, Copy, Debug, PartialEq, Eq)]
+pub enum LineFault {
+    BadLine,
+    BadNumber,
+    CutShort,
+    Trailing,
+    CountOver,
+}
 
 /// Why a command gives no verdict.
 #[derive(Clone, Copy)]
@@ -25,6 +36,14 @@ pub enum Refusal<'a> {
     NotBuilt,
     /// The certificate isn't well formed, or has another number of blocks than there are conditions.
     Refused,
+    /// The schedule's first fault: its line, and what is wrong with it.
+    BadSchedule(u32, LineFault),
+    /// The schedule's arguments don't fit main.
+    BadArgs,
+    /// An annotation's value leaves 128 bits.
+    Wide(Wide),
+    /// A serial, a thread's number or a claim count would be past the greatest that a heap holds.
+    Exhausted,
     /// More than this limit allows.
     Limit(Limit),
     Missing(&'a str),

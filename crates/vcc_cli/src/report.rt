@@ -5,25 +5,15 @@ ghost use Rattle.typing_spec.specs.Rules.{number as number_of_rule};
 ghost use Rattle.typing_expressions.specs.Views.{rule};
 ghost use Rattle.vcc_base.specs.Maps.{NowWritten, FrontWritten};
 ghost use Rattle.vcc_base.specs.Limits.{number_of, name_of};
-ghost use Rattle.vcc_cli.specs.Lines.{IsReported, line, line_of, place_text, source_line, status_of};
+ghost use Rattle.vcc_cli.specs.Lines.{IsReported, fault_name, line, line_of, place_text, schedule_line, source_line, status_of, wide_line, wrote};
 
 use crate::judge::{Label, Verdict};
-use crate::refusal::Refusal;
+use crate::refusal::{LineFault, Refusal};
 use c_syntax::token::Span;
 use typing_expressions::violations::Violation;
 use vcc_base::limit::Limit;
 use vcc_base::sink::{Sink, SinkFault};
-use vcc_base::whole::{put_all, put_number};
-
-/// A natural number in decimal.
-fn put_natural<O: Sink>(out: &mut O, number: u64) -> Result<(), SinkFault>
-    ensures ok { OnOk result (NowWritten (O.written out.old) (O.written out.new) (decimal number)) }
-    ensures err { OnErr result (FrontWritten (O.written out.old) (O.written out.new) (decimal number)) }
-    ensures failed { IsErrOf result SinkFault.Failed → O.faults out.old < O.faults out.new }
-    ensures never_falls { O.faults out.old ≤ O.faults out.new }
-{
-    put_number(out, i128::from(number))
-}
+use vcc_base::whole::{put_all, put_natural, put_number};
 
 /// The line of a check that doesn't follow.
 fn put_no<O: Sink>(out: &mut O, label: Label) -> Result<(), SinkFault>
@@ -81,6 +71,49 @@ fn put_limit<O: Sink>(out: &mut O, limit: Limit) -> Result<(), SinkFault>
     Ok(())
 }
 
+/// The name of what is wrong with a line.
+fn fault_name(fault: LineFault) -> &'static [u8]
+    ensures { result.now ≡ fault_name fault }
+{
+    match fault {
+        LineFault::BadLine => b"BadLine",
+        LineFault::BadNumber => b"BadNumber",
+        LineFault::CutShort => b"CutShort",
+        LineFault::Trailing => b"Trailing",
+        LineFault::CountOver => b"CountOver",
+    }
+}
+
+/// The line of a schedule's fault.
+fn put_schedule_fault<O: Sink>(out: &mut O, line: u32, fault: LineFault) -> Result<(), SinkFault>
+    ensures ok { OnOk result (NowWritten (O.written out.old) (O.written out.new) (schedule_line line fault)) }
+    ensures err { OnErr result (FrontWritten (O.written out.old) (O.written out.new) (schedule_line line fault)) }
+    ensures failed { IsErrOf result SinkFault.Failed → O.faults out.old < O.faults out.new }
+    ensures never_falls { O.faults out.old ≤ O.faults out.new }
+{
+    put_all(out, b"schedule line ")?;
+    put_natural(out, u64::from(line))?;
+    put_all(out, b": ")?;
+    put_all(out, fault_name(fault))?;
+    put_all(out, b"\n")?;
+    Ok(())
+}
+
+/// The line of a value that leaves 128 bits: the operands of its operation.
+fn put_wide<O: Sink>(out: &mut O, left: i128, right: i128) -> Result<(), SinkFault>
+    ensures ok { OnOk result (NowWritten (O.written out.old) (O.written out.new) (wide_line left right)) }
+    ensures err { OnErr result (FrontWritten (O.written out.old) (O.written out.new) (wide_line left right)) }
+    ensures failed { IsErrOf result SinkFault.Failed → O.faults out.old < O.faults out.new }
+    ensures never_falls { O.faults out.old ≤ O.faults out.new }
+{
+    put_all(out, b"limit: Wide ")?;
+    put_number(out, left)?;
+    put_all(out, b" ")?;
+    put_number(out, right)?;
+    put_all(out, b"\n")?;
+    Ok(())
+}
+
 /// The line of a fault of the source, which is a fault of this stage with this number.
 fn put_fault<O: Sink>(out: &mut O, place: Span, stage: &[u8], number: u64) -> Result<(), SinkFault>
     ensures ok { OnOk result (NowWritten (O.written out.old) (O.written out.new) (source_line place stage.now number)) }
@@ -118,7 +151,7 @@ fn put_answer<O: Sink>(out: &mut O, answer: Result<Verdict, Refusal<'_>>) -> Res
     match answer {
         Ok(Verdict::Yes) => put_all(out, b"yes\n"),
         Ok(Verdict::No(label)) => put_no(out, label),
-        Err(Refusal::Usage) => put_all(out, b"usage: vcc check SOURCE CERT\n"),
+        Err(Refusal::Usage) => put_all(out, b"usage: vcc check SOURCE CERT, run SOURCE SCHEDULE\n"),
         Err(Refusal::BadByte(place)) => put_fault(out, place, b"token", 1),
         Err(Refusal::BadNumber(place)) => put_fault(out, place, b"token", 2),
         Err(Refusal::OpenComment(place)) => put_fault(out, place, b"token", 3),
@@ -127,6 +160,10 @@ fn put_answer<O: Sink>(out: &mut O, answer: Result<Verdict, Refusal<'_>>) -> Res
         Err(Refusal::BreaksRule(broken)) => put_broken(out, broken),
         Err(Refusal::NotBuilt) => put_all(out, b"source: not built\n"),
         Err(Refusal::Refused) => put_all(out, b"certificate: refused\n"),
+        Err(Refusal::BadSchedule(line, fault)) => put_schedule_fault(out, line, fault),
+        Err(Refusal::BadArgs) => put_all(out, b"schedule: BadArgs\n"),
+        Err(Refusal::Wide(wide)) => put_wide(out, wide.a, wide.b),
+        Err(Refusal::Exhausted) => put_all(out, b"limit: Serials 4294967295\n"),
         Err(Refusal::Limit(limit)) => put_limit(out, limit),
         Err(Refusal::Missing(name)) => put_named(out, b"missing: ", name),
         Err(Refusal::ReadFault(name)) => put_named(out, b"read fault: ", name),
@@ -150,6 +187,10 @@ fn status(answer: Result<Verdict, Refusal<'_>>) -> u8
         Err(Refusal::BreaksRule(_)) => 3,
         Err(Refusal::NotBuilt) => 3,
         Err(Refusal::Refused) => 4,
+        Err(Refusal::BadSchedule(_, _)) => 3,
+        Err(Refusal::BadArgs) => 3,
+        Err(Refusal::Wide(_)) => 5,
+        Err(Refusal::Exhausted) => 5,
         Err(Refusal::Limit(_)) => 5,
         Err(Refusal::Missing(_)) => 6,
         Err(Refusal::ReadFault(_)) => 6,
@@ -159,7 +200,8 @@ fn status(answer: Result<Verdict, Refusal<'_>>) -> u8
 
 /// Prints the line of an answer, and gives its status; a write fault or want of memory replaces it.
 pub fn report<O: Sink>(out: &mut O, answer: Result<Verdict, Refusal<'_>>) -> u8
-    ensures reported { IsReported answer.entry (record { faults_before = O.faults out.old; faults_after = O.faults out.new; before = O.written out.old; after = O.written out.new }) result }
+    ensures reported { IsReported answer.entry
+        (wrote (O.faults out.old) (O.faults out.new) (O.written out.old) (O.written out.new)) result }
 {
     match put_answer(out, answer) {
         Ok(()) => status(answer),

@@ -1,6 +1,6 @@
 use Rattle.std.proofs.Common.{◌++◌, codes, decimal, sym}
 use Rattle.vcc_base.proofs.Outcomes.{on_err}
-use Rattle.schedule_replay.proofs.Printing.{then_written, is_written, is_front, front_first, front_more}
+use Rattle.vcc_base.proofs.Printing.{then_written, is_written, is_front, front_first, front_more}
 use Rattle.schedule_replay.proofs.Texts.{thread_text, other_text}
 use Rattle.schedule_replay.proofs.put.put_reference.Goals as goal
 

@@ -1,6 +1,6 @@
 use Rattle.std.proofs.Common.{[], ◌++◌, codes, sym, ap, Some, None}
 use Rattle.vcc_base.proofs.Outcomes.{on_err}
-use Rattle.schedule_replay.proofs.Printing.{then_written, is_written, is_front, front_first, front_more}
+use Rattle.vcc_base.proofs.Printing.{then_written, is_written, is_front, front_first, front_more}
 use Rattle.object_types.specs.Lookups.{look_up, heap_of}
 use Rattle.method.specs.Tables.{struct_of}
 use Rattle.schedule_replay.specs.Records.{members_text, fields_text, fields_from}

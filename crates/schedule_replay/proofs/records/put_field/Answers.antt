@@ -1,7 +1,7 @@
 use Rattle.std.proofs.Common.{[], arith, ◌∙◌, ◌<◌, refl, ap, sym}
 use Rattle.std.specs.Prelude.{slice_get}
 use Rattle.std.proofs.lemmas.Option.{slice_get_past, slice_get_read}
-use Rattle.schedule_replay.proofs.Printing.{is_written}
+use Rattle.vcc_base.proofs.Printing.{is_written}
 use Rattle.object_types.specs.Lookups.{heap_of}
 use Rattle.schedule_replay.proofs.Left.{none_written}
 use Rattle.schedule_replay.proofs.Fields.{field_is, numbered_field}

@@ -1,6 +1,6 @@
 use Rattle.std.proofs.Common.{[], arith, ◌+◌, ◌-◌, ◌≤◌, ap}
 use Rattle.vcc_base.proofs.Outcomes.{on_err}
-use Rattle.schedule_replay.proofs.Printing.{is_written, is_front}
+use Rattle.vcc_base.proofs.Printing.{is_written, is_front}
 use Rattle.object_types.specs.Lookups.{heap_of}
 use Rattle.schedule_replay.specs.Records.{field_text, fields_from}
 use Rattle.schedule_replay.proofs.Left.{left_none, left_is, left_rest, left_front}

@@ -1,6 +1,6 @@
 use Rattle.std.proofs.Common.{◌++◌, codes}
 use Rattle.vcc_base.proofs.Outcomes.{on_err}
-use Rattle.schedule_replay.proofs.Printing.{then_written, front_first, front_more}
+use Rattle.vcc_base.proofs.Printing.{then_written, front_first, front_more}
 use Rattle.schedule_replay.specs.Records.{spaced, members_text}
 use Rattle.schedule_replay.proofs.records.put_members.Goals as goal
 

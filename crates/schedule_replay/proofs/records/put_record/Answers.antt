@@ -1,6 +1,6 @@
 use Rattle.std.proofs.Common.{◌++◌, codes}
 use Rattle.vcc_base.proofs.Outcomes.{on_err}
-use Rattle.schedule_replay.proofs.Printing.{then_written, front_first, front_more}
+use Rattle.vcc_base.proofs.Printing.{then_written, front_first, front_more}
 use Rattle.object_types.specs.Lookups.{heap_of}
 use Rattle.schedule_replay.specs.Records.{heading_text, content_text, record_text}
 use Rattle.schedule_replay.proofs.records.put_record.Goals as goal

@@ -1,6 +1,6 @@
 use Rattle.std.proofs.Common.{◌∷◌, arith}
 use Rattle.vcc_base.proofs.Outcomes.{on_err}
-use Rattle.schedule_replay.proofs.Printing.{is_written, is_front}
+use Rattle.vcc_base.proofs.Printing.{is_written, is_front}
 use Rattle.schedule_replay.specs.Pieces.{ref_text}
 use Rattle.schedule_replay.proofs.Left.{next_text, text_front}
 use Rattle.schedule_replay.proofs.Texts.{member_text}

@@ -1,5 +1,5 @@
 use Rattle.vcc_base.proofs.Outcomes.{on_err}
-use Rattle.schedule_replay.proofs.Printing.{then_written, front_first, front_more}
+use Rattle.vcc_base.proofs.Printing.{then_written, front_first, front_more}
 use Rattle.object_types.specs.Lookups.{heap_of}
 use Rattle.schedule_replay.specs.Records.{records_text}
 use Rattle.schedule_replay.specs.ReplayText.{clean_text}

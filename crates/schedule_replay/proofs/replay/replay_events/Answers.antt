@@ -1,5 +1,5 @@
 use Rattle.std.proofs.Common.{◌+◌, ap, arith}
-use Rattle.schedule_replay.proofs.Printing.{is_written, is_front}
+use Rattle.vcc_base.proofs.Printing.{is_written, is_front}
 use Rattle.object_types.specs.Lookups.{heap_of}
 use Rattle.schedule_replay.specs.ReplayText.{end_text, replay_from}
 use Rattle.schedule_replay.proofs.Events.{sink_exit, step_exit, cut, on_next, next_front, on_fault, fault_front, on_idle, idle_front, on_wide, on_end, end_front}

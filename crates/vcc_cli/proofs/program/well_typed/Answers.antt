@@ -1,13 +1,5 @@
-use Rattle.c_syntax.specs.Views.{items_of}
-use Rattle.typing_spec.specs.FirstLaws.{none_broken}
-use Rattle.std.proofs.Common.{subst}
-use Rattle.c_types.specs.Typed.{IsTypeFault}
-use Rattle.vcc_cli.proofs.Programs.{breaks_first}
+use Rattle.vcc_cli.proofs.Programs.{untyped_refused}
 use Rattle.vcc_cli.proofs.program.well_typed.Goals as goal
 
-pub returns-in-Ok-clause-typed : goal.returns-in-Ok-clause-typed
-returns-in-Ok-clause-typed c = none_broken (items_of c.args.tree.now) c.args.tree.now.end c.in-Ok.ensures.typed.unbroken
-
-pub returns-in-Err-Rule-clause-refused : goal.returns-in-Err-Rule-clause-refused
-returns-in-Err-Rule-clause-refused c = λ bytes text within.
-    breaks_first bytes (items_of c.args.tree.now) c.args.tree.now.end c.in-Err-Rule.broken text within (subst (IsTypeFault (items_of c.args.tree.now) c.args.tree.now.end) c.in-Err-Rule.field-0-is c.in-Err-Rule.ensures.fault)
+pub returns-in-Err-clause-refused : goal.returns-in-Err-clause-refused
+returns-in-Err-clause-refused c = λ bytes text within. untyped_refused bytes c.in-Err.refusal (c.in-Err.ensures.refused bytes text within)

@@ -1,7 +1,7 @@
 use Rattle.std.proofs.Common.{[], ◌∷◌, ◌++◌, codes, decimal}
 use Rattle.vcc_cli.specs.Lines.{place_text}
 use Rattle.vcc_base.proofs.Outcomes.{on_err}
-use Rattle.vcc_cli.proofs.Printing.{then_written, front_first, front_more}
+use Rattle.vcc_base.proofs.Printing.{then_written, front_first, front_more}
 use Rattle.vcc_cli.proofs.report.put_fault.Goals as goal
 
 pub returns-clause-ok : goal.returns-clause-ok

@@ -2,7 +2,7 @@ use Rattle.std.proofs.Common.{[], ◌∷◌, ◌++◌, codes, decimal, ◌∙◌
 use Rattle.vcc_base.specs.Limits.{number_of, name_of}
 use Rattle.vcc_cli.specs.Lines.{line}
 use Rattle.vcc_base.proofs.Outcomes.{on_err}
-use Rattle.vcc_cli.proofs.Printing.{then_written, is_written, is_decimal, is_front, is_front_decimal, front_first, front_more}
+use Rattle.vcc_base.proofs.Printing.{then_written, is_written, is_decimal, is_front, is_front_decimal, front_first, front_more}
 use Rattle.vcc_cli.proofs.report.put_limit.Goals as goal
 
 pub returns-clause-ok : goal.returns-clause-ok

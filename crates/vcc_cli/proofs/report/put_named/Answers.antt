@@ -1,7 +1,7 @@
 use Rattle.std.proofs.Common.{[], ◌∷◌}
 use Rattle.vcc_cli.specs.Lines.{line}
 use Rattle.vcc_base.proofs.Outcomes.{on_err}
-use Rattle.vcc_cli.proofs.Printing.{then_written, is_written, is_front, front_first, front_more}
+use Rattle.vcc_base.proofs.Printing.{then_written, is_written, is_front, front_first, front_more}
 use Rattle.vcc_cli.proofs.report.put_named.Goals as goal
 
 pub returns-clause-ok : goal.returns-clause-ok

@@ -1,6 +1,6 @@
 use Rattle.std.proofs.Common.{◌++◌, codes, decimal}
 use Rattle.vcc_base.proofs.Outcomes.{on_err}
-use Rattle.vcc_cli.proofs.Printing.{then_written, is_decimal, is_front_decimal, front_first, front_more}
+use Rattle.vcc_base.proofs.Printing.{then_written, is_decimal, is_front_decimal, front_first, front_more}
 use Rattle.vcc_cli.proofs.report.put_place.Goals as goal
 
 pub returns-clause-ok : goal.returns-clause-ok

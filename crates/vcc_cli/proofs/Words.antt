@@ -1,0 +1,24 @@
+-- The words of a command.
+use Rattle.std.proofs.Common.{◌≡◌, ℕ, true, List, [], ◌∷◌, length, get_or, sym, subst, ◌∙◌, arith}
+use Rattle.std.specs.Str.{bytes_eq}
+use Rattle.std.proofs.lemmas.Slice.Eq.{bytes_eq-Decides}
+use Rattle.vcc_cli.specs.Command.{IsName, IsNamedPair}
+
+pub three : {X : Type 0} (xs : List X) (a b c : X) → length xs ≡ 3 → a ≡ get_or xs 0 a → b ≡ get_or xs 1 b → c ≡ get_or xs 2 c → xs ≡ a ∷ b ∷ c ∷ []
+three [] a b c n p q r = absurd (omega arith)
+three (x ∷ []) a b c n p q r = absurd (omega arith)
+three (x ∷ y ∷ []) a b c n p q r = absurd (omega arith)
+three (x ∷ y ∷ z ∷ []) a b c n p q r = cc
+three (x ∷ y ∷ z ∷ w ∷ xs) a b c n p q r = absurd (omega arith)
+
+-- the command's word, and the names behind it
+pub pair_parts : (xs : List (List ℕ)) (command word first second a b : List ℕ) → xs ≡ word ∷ a ∷ b ∷ [] → IsNamedPair command xs first second → (word ≡ command) × IsName a × IsName b
+pair_parts xs command word first second a b e pair =
+    let same : command ∷ first ∷ second ∷ [] ≡ word ∷ a ∷ b ∷ [] = sym pair.are ∙ e in
+    let one : first ≡ a = cc in
+    let two : second ≡ b = cc in
+    let word_is : word ≡ command = cc in
+    (word_is, subst IsName one pair.first_name, subst IsName two pair.second_name)
+
+pub same_bytes : (xs ys : List ℕ) → xs ≡ ys → bytes_eq xs ys ≡ true
+same_bytes xs ys e = (bytes_eq-Decides xs ys).1 e
