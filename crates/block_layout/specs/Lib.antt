@@ -1,0 +1,4 @@
+pub mod Trees
+pub mod Layout
+pub mod Loading
+pub mod Space

@@ -1,0 +1,212 @@
+-- What a loaded block shows.
+use Rattle.std.proofs.Common.{◌≡◌, ◌⊎◌, inl, inr, ℕ, suc, ◌∷◌, ◌+◌, ◌<◌, ◌≤◌, List, [], length, map, take, Option, Some, None, Result, Ok, Err, slice_get, IsTrue, ◌↔◌, Bool, true, false, refl, ap, sym, ◌∙◌, subst, arith}
+use Rattle.int_ranges.specs.declared.exact.Wide.{Wide}
+use Rattle.terms.specs.declared.term.Term.{Term}
+use Rattle.terms.specs.declared.term.Literal.{Literal}
+use Rattle.term_meaning.specs.Meaning.{Language}
+use Rattle.cert_format.specs.Derivations.{Derivation}
+use Rattle.vcc_rules.specs.Law.{AreWithin}
+use Rattle.block_layout.specs.declared.loaded.Loaded.{Loaded}
+use Rattle.block_layout.specs.declared.loaded.Stop.{Stop}
+use Rattle.block_layout.specs.declared.loaded.Stop.TheVariants as s
+use Rattle.block_layout.specs.declared.space.Space.{Space}
+use Rattle.block_layout.specs.Layout.{Laid, IsLayout, clause_in}
+use Rattle.block_layout.specs.Loading.{laid_in, AreLaid, IsLoaded, IsLoadedTo, IsPastLimit, IsUnnamed}
+use Rattle.std.proofs.lemmas.Option.{slice_get_within}
+use Rattle.block_layout.proofs.Lists.{take_long}
+use Rattle.refutation_check.specs.declared.answer.Answer.{Answer}
+use Rattle.refutation_check.specs.declared.answer.Answer.TheVariants as a
+use Rattle.refutation_check.specs.declared.answer.CheckFault.{CheckFault}
+use Rattle.refutation_check.specs.declared.answer.CheckFault.TheVariants as f
+use Rattle.refutation_check.specs.Rows.{IsGivenAt}
+use Rattle.refutation_check.specs.Judging.{has_steps, IsUnloaded, IsEnding, IsWhole, Empty, Other, IsSomeLoaded, IsFirstFailure, FirstFailure, Judges}
+use Rattle.refutation_check.specs.Follows.{IsAnswer, FrontLaid, Refutes, FailsFirst, LeavesFirst, EndsEmpty}
+use Rattle.refutation_check.proofs.Within.{layout_within}
+
+-- ---- steps that are laid out
+
+-- some of the first steps are laid out
+record Front (l : Language) (own : List Term) (root : ℕ) (block : Derivation) (space : Space) (loaded : Loaded) : Type 0 where
+  count : ℕ
+  are : AreLaid l own root block space loaded count
+
+front_of : (l : Language) (own : List Term) (root : ℕ) (block : Derivation) (space : Space) (loaded : Loaded) (stop : Option Stop) → has_steps stop ≡ true → IsLoadedTo l own root block space loaded stop → Front l own root block space loaded
+front_of l own root block space loaded None h k = record { count = length block.steps; are = k.0 }
+front_of l own root block space loaded (Some (s.BadTerm i)) h k = cc
+front_of l own root block space loaded (Some s.Limit) h k = cc
+front_of l own root block space loaded (Some (s.LimitAt i)) h k = record { count = i; are = k.0 }
+front_of l own root block space loaded (Some (s.UnnamedAt i)) h k = record { count = i; are = k.0 }
+
+pub within : (space : Space) (loaded : Loaded) → IsSomeLoaded space loaded → has_steps loaded.stop ≡ true → AreWithin (length space.graph) loaded.clauses.list.items
+within space loaded k h =
+    let front = front_of k.language k.own k.root k.block space loaded loaded.stop h k.is in
+    layout_within k.language front.are.trees k.root (take front.count k.block.steps) (laid_in space front.are.node loaded) front.are.layout
+
+map_long : {X Y : Type 0} (f : X → Y) (xs : List X) → length (map f xs) ≡ length xs
+map_long f [] = refl
+map_long f (x ∷ xs) = ap suc (map_long f xs)
+
+as_long : (l : Language) (own : List Term) (root : ℕ) (block : Derivation) (space : Space) (loaded : Loaded) (count : ℕ) → AreLaid l own root block space loaded count → length loaded.steps.items ≡ length loaded.clauses.list.items
+as_long l own root block space loaded count k =
+    k.layout.count ∙ sym (ap length k.layout.clauses ∙ map_long (clause_in k.layout.names) (take count block.steps))
+
+pub steps_long : (space : Space) (loaded : Loaded) → IsSomeLoaded space loaded → has_steps loaded.stop ≡ true → length loaded.steps.items ≡ length loaded.clauses.list.items
+steps_long space loaded k h =
+    let front = front_of k.language k.own k.root k.block space loaded loaded.stop h k.is in
+    as_long k.language k.own k.root k.block space loaded front.count front.are
+
+-- ---- answers
+
+front_laid : (l : Language) (own : List Term) (root : ℕ) (block : Derivation) (space : Space) (loaded : Loaded) (count : ℕ) → (k : AreLaid l own root block space loaded count) → FrontLaid l own root block count (laid_in space k.node loaded)
+front_laid l own root block space loaded count k = record { trees = k.trees; good = k.good; layout = k.layout }
+
+pub on_unloaded : (l : Language) (own : List Term) (root : ℕ) (block : Derivation) (space : Space) (loaded : Loaded) (stop : Option Stop) (result : Result Answer CheckFault) → has_steps stop ≡ false → IsUnloaded stop result → IsLoadedTo l own root block space loaded stop → IsAnswer l own root block result
+on_unloaded l own root block space loaded None result h u k = cc
+on_unloaded l own root block space loaded (Some (s.BadTerm i)) result h u k = subst (λ (x : Result Answer CheckFault). IsAnswer l own root block x) (sym u) k
+on_unloaded l own root block space loaded (Some s.Limit) result h u k = subst (λ (x : Result Answer CheckFault). IsAnswer l own root block x) (sym u) tt
+on_unloaded l own root block space loaded (Some (s.LimitAt i)) result h u k = cc
+on_unloaded l own root block space loaded (Some (s.UnnamedAt i)) result h u k = cc
+
+pub on_wide : (l : Language) (own : List Term) (root : ℕ) (block : Derivation) (space : Space) (loaded : Loaded) (w : Wide) → has_steps loaded.stop ≡ true → IsFirstFailure space loaded (Err w) → IsLoaded l own root block space loaded → LeavesFirst l own root block w
+on_wide l own root block space loaded w h first k =
+    let front = front_of l own root block space loaded loaded.stop h k in
+    let (i, before, leaves) = first.each front.are.node front.are.root_node in
+    record { count = front.count; laid = laid_in space front.are.node loaded; front = front_laid l own root block space loaded front.count front.are; step = i; before = before; leaves = leaves }
+
+pub on_failure : (l : Language) (own : List Term) (root : ℕ) (block : Derivation) (space : Space) (loaded : Loaded) (i : ℕ) → has_steps loaded.stop ≡ true → IsFirstFailure space loaded (Ok (Some i)) → IsLoaded l own root block space loaded → FailsFirst l own root block i
+on_failure l own root block space loaded i h first k =
+    let front = front_of l own root block space loaded loaded.stop h k in
+    let (place, before, not_given) = first.each front.are.node front.are.root_node in
+    record { count = front.count; laid = laid_in space front.are.node loaded; front = front_laid l own root block space loaded front.count front.are; before = before; fails = inl (place, not_given) }
+
+-- at a step whose clause names no term
+unnamed_fails : (l : Language) (own : List Term) (root : ℕ) (block : Derivation) (space : Space) (loaded : Loaded) (i : ℕ) → IsFirstFailure space loaded (Ok None) → (k : AreLaid l own root block space loaded i) → IsUnnamed block.steps (length k.trees) i → FailsFirst l own root block i
+unfolding front_laid
+unnamed_fails l own root block space loaded i first k u =
+    let place : i ≡ length loaded.clauses.list.items = sym (take_long block.steps i (omega (arith, slice_get_within block.steps i u.step u.at))) ∙ sym (map_long (clause_in k.layout.names) (take i block.steps)) ∙ sym (ap length k.layout.clauses) in
+    record {
+      count = i;
+      laid = laid_in space k.node loaded;
+      front = front_laid l own root block space loaded i k;
+      before = λ j below. first.each k.node k.root_node j (subst (λ n. j < n) place below);
+      fails = inr (inl (place, u));
+    }
+
+whole_answer : (l : Language) (own : List Term) (root : ℕ) (block : Derivation) (space : Space) (loaded : Loaded) (result : Result Answer CheckFault) → IsFirstFailure space loaded (Ok None) → AreLaid l own root block space loaded (length block.steps) → length space.graph ≤ 1_048_576
+    → IsWhole loaded.clauses.list.items (length loaded.steps.items) result → IsAnswer l own root block result
+whole_answer l own root block space loaded result first k few (Empty empty is) =
+    subst (λ (x : Result Answer CheckFault). IsAnswer l own root block x) (sym is)
+    (record {
+      laid = laid_in space k.node loaded;
+      front = front_laid l own root block space loaded (length block.steps) k;
+      few = few;
+      given = first.each k.node k.root_node;
+      empty = empty;
+    })
+whole_answer l own root block space loaded result first k few (Other open' is) =
+    let long : length loaded.steps.items ≡ length loaded.clauses.list.items = as_long l own root block space loaded (length block.steps) k in
+    subst (λ (x : Result Answer CheckFault). IsAnswer l own root block x) (sym is)
+    (record {
+      count = length block.steps;
+      laid = laid_in space k.node loaded;
+      front = front_laid l own root block space loaded (length block.steps) k;
+      before = λ j below. first.each k.node k.root_node j (subst (λ n. j < n) long below);
+      fails = inr (inr (long, refl, open'));
+    })
+
+on_ending : (l : Language) (own : List Term) (root : ℕ) (block : Derivation) (space : Space) (loaded : Loaded) (stop : Option Stop) (result : Result Answer CheckFault) → has_steps stop ≡ true → IsFirstFailure space loaded (Ok None) → IsEnding loaded stop result → IsLoadedTo l own root block space loaded stop → IsAnswer l own root block result
+on_ending l own root block space loaded None result h first e k = whole_answer l own root block space loaded result first k.0 k.1 e
+on_ending l own root block space loaded (Some (s.BadTerm i)) result h first e k = cc
+on_ending l own root block space loaded (Some s.Limit) result h first e k = cc
+on_ending l own root block space loaded (Some (s.LimitAt i)) result h first e k = subst (λ (x : Result Answer CheckFault). IsAnswer l own root block x) (sym e) tt
+on_ending l own root block space loaded (Some (s.UnnamedAt i)) result h first e k =
+    subst (λ (x : Result Answer CheckFault). IsAnswer l own root block x) (sym e) (unnamed_fails l own root block space loaded i first k.0 k.1)
+
+pub ended : (l : Language) (own : List Term) (root : ℕ) (block : Derivation) (space : Space) (loaded : Loaded) (result : Result Answer CheckFault) → has_steps loaded.stop ≡ true → IsFirstFailure space loaded (Ok None) → IsEnding loaded loaded.stop result → IsLoaded l own root block space loaded → IsAnswer l own root block result
+ended l own root block space loaded result h first e k = on_ending l own root block space loaded loaded.stop result h first e k
+
+-- ---- the limit, and memory
+
+past : (l : Language) (own : List Term) (root : ℕ) (block : Derivation) (space : Space) (loaded : Loaded) (stop : Option Stop) (result : Result Answer CheckFault) → IsUnloaded stop result → has_steps stop ≡ false → IsLoadedTo l own root block space loaded stop → result ≡ Err f.Limit → IsPastLimit space
+past l own root block space loaded None result u h k e = cc
+past l own root block space loaded (Some (s.BadTerm i)) result u h k e = let n : Ok (a.BadTerm i) ≡ Err f.Limit = sym u ∙ e in cc
+past l own root block space loaded (Some s.Limit) result u h k e = k
+past l own root block space loaded (Some (s.LimitAt i)) result u h k e = cc
+past l own root block space loaded (Some (s.UnnamedAt i)) result u h k e = cc
+
+pub past_terms : (space : Space) (loaded : Loaded) (result : Result Answer CheckFault) → IsSomeLoaded space loaded → IsUnloaded loaded.stop result → has_steps loaded.stop ≡ false → result ≡ Err f.Limit → IsPastLimit space
+past_terms space loaded result k u h e = past k.language k.own k.root k.block space loaded loaded.stop result u h k.is e
+
+whole_no_limit : (clauses : List (List Literal)) (count : ℕ) (result : Result Answer CheckFault) → IsWhole clauses count result → result ≡ Err f.Limit → ⊥
+whole_no_limit clauses count result (Empty empty is) e = let n : Ok a.Follows ≡ Err f.Limit = sym is ∙ e in cc
+whole_no_limit clauses count result (Other open' is) e = let n : Ok (a.FailsAt count) ≡ Err f.Limit = sym is ∙ e in cc
+
+past_end : (l : Language) (own : List Term) (root : ℕ) (block : Derivation) (space : Space) (loaded : Loaded) (stop : Option Stop) (result : Result Answer CheckFault) → has_steps stop ≡ true → IsEnding loaded stop result → IsLoadedTo l own root block space loaded stop → result ≡ Err f.Limit → IsPastLimit space
+past_end l own root block space loaded None result h u k e = absurd (whole_no_limit loaded.clauses.list.items (length loaded.steps.items) result u e)
+past_end l own root block space loaded (Some (s.BadTerm i)) result h u k e = cc
+past_end l own root block space loaded (Some s.Limit) result h u k e = k
+past_end l own root block space loaded (Some (s.LimitAt i)) result h u k e = k.1
+past_end l own root block space loaded (Some (s.UnnamedAt i)) result h u k e = let n : Ok (a.FailsAt i) ≡ Err f.Limit = sym u ∙ e in cc
+
+pub past_steps : (space : Space) (loaded : Loaded) (result : Result Answer CheckFault) → IsSomeLoaded space loaded → has_steps loaded.stop ≡ true → IsEnding loaded loaded.stop result → result ≡ Err f.Limit → IsPastLimit space
+past_steps space loaded result k h u e = past_end k.language k.own k.root k.block space loaded loaded.stop result h u k.is e
+
+pub whole_empty : (clauses : List (List Literal)) (count : ℕ) (b : Bool) → (IsTrue b ↔ EndsEmpty clauses) → b ≡ true → IsWhole clauses count (Ok a.Follows)
+whole_empty clauses count b test so = Empty (test.0 so) refl
+
+pub whole_other : (clauses : List (List Literal)) (count : ℕ) (b : Bool) → (IsTrue b ↔ EndsEmpty clauses) → b ≡ false → IsWhole clauses count (Ok (a.FailsAt count))
+whole_other clauses count b test not_so = Other (λ k. let so : b ≡ true = test.1 k in cc) refl
+
+-- ---- the four ways
+
+no_memory_terms : (stop : Option Stop) (result : Result Answer CheckFault) → has_steps stop ≡ false → IsUnloaded stop result → result ≡ Err f.OutOfMemory → ⊥
+no_memory_terms None result h u e = cc
+no_memory_terms (Some (s.BadTerm i)) result h u e = let n : Ok (a.BadTerm i) ≡ Err f.OutOfMemory = sym u ∙ e in cc
+no_memory_terms (Some s.Limit) result h u e = let n : Err f.Limit ≡ Err f.OutOfMemory = sym u ∙ e in cc
+no_memory_terms (Some (s.LimitAt i)) result h u e = cc
+no_memory_terms (Some (s.UnnamedAt i)) result h u e = cc
+
+whole_no_memory : (clauses : List (List Literal)) (count : ℕ) (result : Result Answer CheckFault) → IsWhole clauses count result → result ≡ Err f.OutOfMemory → ⊥
+whole_no_memory clauses count result (Empty empty is) e = let n : Ok a.Follows ≡ Err f.OutOfMemory = sym is ∙ e in cc
+whole_no_memory clauses count result (Other open' is) e = let n : Ok (a.FailsAt count) ≡ Err f.OutOfMemory = sym is ∙ e in cc
+
+no_memory_end : (loaded : Loaded) (stop : Option Stop) (result : Result Answer CheckFault) → has_steps stop ≡ true → IsEnding loaded stop result → result ≡ Err f.OutOfMemory → ⊥
+no_memory_end loaded None result h u e = whole_no_memory loaded.clauses.list.items (length loaded.steps.items) result u e
+no_memory_end loaded (Some (s.BadTerm i)) result h u e = cc
+no_memory_end loaded (Some s.Limit) result h u e = cc
+no_memory_end loaded (Some (s.LimitAt i)) result h u e = let n : Err f.Limit ≡ Err f.OutOfMemory = sym u ∙ e in cc
+no_memory_end loaded (Some (s.UnnamedAt i)) result h u e = let n : Ok (a.FailsAt i) ≡ Err f.OutOfMemory = sym u ∙ e in cc
+
+pub judges_unloaded : (space : Space) (loaded : Loaded) (result : Result Answer CheckFault) → IsSomeLoaded space loaded → has_steps loaded.stop ≡ false → IsUnloaded loaded.stop result → Judges space loaded result
+judges_unloaded space loaded result k h u = record {
+  answer = λ l own root block is. on_unloaded l own root block space loaded loaded.stop result h u is;
+  limit = λ e. past_terms space loaded result k u h e;
+  memory = no_memory_terms loaded.stop result h u;
+}
+
+pub judges_wide : (space : Space) (loaded : Loaded) (w : Wide) → has_steps loaded.stop ≡ true → IsFirstFailure space loaded (Err w) → Judges space loaded (Err (f.Wide w))
+judges_wide space loaded w h first = record {
+  answer = λ l own root block is. on_wide l own root block space loaded w h first is;
+  limit = λ e. absurd (cc);
+  memory = λ e. cc;
+}
+
+pub judges_failure : (space : Space) (loaded : Loaded) (i : ℕ) → has_steps loaded.stop ≡ true → IsFirstFailure space loaded (Ok (Some i)) → Judges space loaded (Ok (a.FailsAt i))
+judges_failure space loaded i h first = record {
+  answer = λ l own root block is. on_failure l own root block space loaded i h first is;
+  limit = λ e. absurd (cc);
+  memory = λ e. cc;
+}
+
+pub judges_ending : (space : Space) (loaded : Loaded) (result : Result Answer CheckFault) → IsSomeLoaded space loaded → has_steps loaded.stop ≡ true → IsFirstFailure space loaded (Ok None) → IsEnding loaded loaded.stop result → Judges space loaded result
+judges_ending space loaded result k h first u = record {
+  answer = λ l own root block is. ended l own root block space loaded result h first u is;
+  limit = λ e. past_steps space loaded result k h u e;
+  memory = no_memory_end loaded loaded.stop result h u;
+}
+
+pub refuted : (l : Language) (own : List Term) (root : ℕ) (block : Derivation) (result : Result Answer CheckFault) → IsAnswer l own root block result → result ≡ Ok a.Follows → Refutes l own root block
+refuted l own root block result k e = subst (λ (x : Result Answer CheckFault). IsAnswer l own root block x) e k
+
+pub out_of_memory : (result : Result Answer CheckFault) (l : Language) (own : List Term) (root : ℕ) (block : Derivation) → result ≡ Err f.OutOfMemory → IsAnswer l own root block result
+out_of_memory result l own root block e = subst (λ (x : Result Answer CheckFault). IsAnswer l own root block x) (sym e) tt
