@@ -1,0 +1,4 @@
+pub mod Quantifiers
+pub mod Words
+pub mod Statements
+pub mod Programs
