@@ -1,0 +1,11 @@
+pub mod Agreeing
+pub mod Blocks
+pub mod Clauses
+pub mod Comparisons
+pub mod Equality
+pub mod Linear
+pub mod Maps
+pub mod Names
+pub mod Sides
+pub mod Sums
+pub mod Trees
