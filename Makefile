@@ -7,7 +7,7 @@ CORES := $(shell nproc)
 
 .PHONY: run build install test check fmt
 
-# Judges the first example and replays the lock, without proving anything first: about two minutes.
+# Judges the first example and replays the lock, without proving anything first: about three minutes.
 run:
 	@echo "unproved run; \`make test\` proves it"
 	@cd crates/vcc && rt try -- check $(EXAMPLES)/first.c $(EXAMPLES)/first.cert
