@@ -1,18 +1,17 @@
 -- The steps of a loaded block, one after the other.
-use Rattle.std.proofs.Common.{◌≡◌, ◌↔◌, ℕ, ◌+◌, ◌<◌, ◌≤◌, List, length, Option, Some, None, Result, Ok, Err, IfOk, IsTrue, slice_get, Bool, true, false, refl, ap, sym, ◌∙◌, subst, arith}
+use Rattle.std.proofs.Common.{◌≡◌, ◌↔◌, ℕ, ◌+◌, ◌<◌, ◌≤◌, List, length, Option, Some, None, Result, Ok, Err, IfOk, IsTrue, slice_get, Bool, sym, ◌∙◌, subst, arith}
 use borrow.Author.Count.{below_more}
 use Rattle.int_ranges.specs.declared.exact.Wide.{Wide}
 use Rattle.terms.specs.declared.term.Term.{Term}
 use Rattle.terms.specs.declared.term.Literal.{Literal}
 use Rattle.terms.specs.declared.sort.Sort.{Sort}
 use Rattle.cert_format.specs.declared.certificate.RuleName.{RuleName}
-use Rattle.vcc_rules.specs.Law.{IsWithin, AreWithin}
 use Rattle.block_layout.specs.declared.loaded.Loaded.{Loaded}
 use Rattle.block_layout.specs.declared.loaded.LoadedStep.{LoadedStep}
 use Rattle.block_layout.specs.declared.space.Space.{Space}
 use Rattle.block_layout.specs.Loading.{laid_in}
-use Rattle.refutation_check.specs.Rows.{IsRow, RowLeaves, IsGivenAt, LeavesAt}
-use Rattle.refutation_check.specs.Judging.{AreGiven, FirstFailure, IsFirstFailure}
+use Rattle.refutation_check.specs.Rows.{IsRow, RowLeaves, RowFits, IsGivenAt}
+use Rattle.refutation_check.specs.Judging.{AreGiven, IsFirstFailure}
 
 -- the row of a step of the loaded block, and what leaves there
 abbrev pub RowAt : Space → Loaded → ℕ → LoadedStep → List Literal → Type 0
@@ -21,24 +20,28 @@ RowAt space loaded i step clause = IsRow space.graph space.sorts loaded.clauses.
 abbrev pub LeavesRow : Space → Loaded → ℕ → LoadedStep → List Literal → Wide → Type 0
 LeavesRow space loaded i step clause w = RowLeaves space.graph space.sorts loaded.clauses.root loaded.clauses.list.items i step clause step.rule w
 
+abbrev pub FitsRow : Space → Loaded → ℕ → LoadedStep → List Literal → Type 0
+FitsRow space loaded i step clause = RowFits space.graph space.sorts loaded.clauses.root loaded.clauses.list.items i step clause step.rule
+
 -- what is at a place
 pub record At (loaded : Loaded) (i : ℕ) (step : LoadedStep) (clause : List Literal) : Type 0 where
   pub step_at : slice_get loaded.steps.items i ≡ Some step
   pub clause_at : slice_get loaded.clauses.list.items i ≡ Some clause
 
-given_at : (space : Space) (loaded : Loaded) (i : ℕ) (step : LoadedStep) (clause : List Literal) → At loaded i step clause → RowAt space loaded i step clause → (root : ℕ) → loaded.clauses.root ≡ Some root → IsGivenAt (laid_in space root loaded) i
-given_at space loaded i step clause at row root is = record {
+given_at : (space : Space) (loaded : Loaded) (i : ℕ) (step : LoadedStep) (clause : List Literal) → At loaded i step clause → RowAt space loaded i step clause → FitsRow space loaded i step clause → (root : ℕ) → loaded.clauses.root ≡ Some root → IsGivenAt (laid_in space root loaded) i
+given_at space loaded i step clause at row fits root is = record {
   step = step;
   clause = clause;
   at = at.step_at;
   clause_at = at.clause_at;
   row = subst (λ (o : Option ℕ). IsRow space.graph space.sorts o loaded.clauses.list.items i step clause step.rule) is row;
+  within = subst (λ (o : Option ℕ). RowFits space.graph space.sorts o loaded.clauses.list.items i step clause step.rule) is fits;
 }
 
-pub given_more : (space : Space) (loaded : Loaded) (i : ℕ) (step : LoadedStep) (clause : List Literal) → At loaded i step clause → RowAt space loaded i step clause
+pub given_more : (space : Space) (loaded : Loaded) (i : ℕ) (step : LoadedStep) (clause : List Literal) → At loaded i step clause → RowAt space loaded i step clause → FitsRow space loaded i step clause
     → ((root : ℕ) → loaded.clauses.root ≡ Some root → AreGiven (laid_in space root loaded) i) → (root : ℕ) → loaded.clauses.root ≡ Some root → AreGiven (laid_in space root loaded) (i + 1)
-given_more space loaded i step clause at row before root is =
-    below_more (λ j. IsGivenAt (laid_in space root loaded) j) i (before root is) (given_at space loaded i step clause at row root is)
+given_more space loaded i step clause at row fits before root is =
+    below_more (λ j. IsGivenAt (laid_in space root loaded) j) i (before root is) (given_at space loaded i step clause at row fits root is)
 
 some_same : {X : Type 0} {x y : X} → Some x ≡ Some y → x ≡ y
 some_same h = cc
@@ -90,3 +93,16 @@ pub row_sorted : (nodes : List Term) (held sorts : List (Option Sort)) (root : O
 row_sorted nodes held sorts root clauses below step clause result rule name same is row =
     row_named nodes sorts root clauses below step clause result rule name is
     (subst (λ (x : List (Option Sort)). IfOk result (λ yes. IsTrue yes ↔ IsRow nodes x root clauses below step clause name)) same row)
+
+-- within 128 bits, by the rule that a step names
+pub fits_named : (nodes : List Term) (sorts : List (Option Sort)) (root : Option ℕ) (clauses : List (List Literal)) (below : ℕ) (step : LoadedStep) (clause : List Literal) (result : Result Bool Wide) (rule name : RuleName) → rule ≡ name
+    → IfOk result (λ yes. RowFits nodes sorts root clauses below step clause name) → IfOk result (λ yes. RowFits nodes sorts root clauses below step clause rule)
+fits_named nodes sorts root clauses below step clause result rule name is fits =
+    subst (λ (x : RuleName). IfOk result (λ yes. RowFits nodes sorts root clauses below step clause x)) (sym is) fits
+
+-- the same for a rule that holds the sorts
+pub fits_sorted : (nodes : List Term) (held sorts : List (Option Sort)) (root : Option ℕ) (clauses : List (List Literal)) (below : ℕ) (step : LoadedStep) (clause : List Literal) (result : Result Bool Wide) (rule name : RuleName) → held ≡ sorts → rule ≡ name
+    → IfOk result (λ yes. RowFits nodes held root clauses below step clause name) → IfOk result (λ yes. RowFits nodes sorts root clauses below step clause rule)
+fits_sorted nodes held sorts root clauses below step clause result rule name same is fits =
+    fits_named nodes sorts root clauses below step clause result rule name is
+    (subst (λ (x : List (Option Sort)). IfOk result (λ yes. RowFits nodes x root clauses below step clause name)) same fits)

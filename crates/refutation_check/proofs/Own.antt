@@ -1,5 +1,5 @@
 -- The trees of a condition's own terms are those that the terms stand for.
-use Rattle.std.proofs.Common.{◌≡◌, ℕ, zero, suc, ◌+◌, ◌<◌, List, [], ◌∷◌, ◌++◌, length, Option, Some, None, slice_get, option_map, option_and_then, refl, ap, sym, ◌∙◌, subst, arith, length-append}
+use Rattle.std.proofs.Common.{◌≡◌, ℕ, zero, suc, ◌+◌, List, [], ◌∷◌, ◌++◌, length, Option, Some, slice_get, option_map, option_and_then, refl, ap, sym, ◌∙◌, subst, arith, length-append}
 use Rattle.terms.specs.declared.term.Term.{Term}
 use Rattle.terms.specs.Formula.{Formula, Formulas, Node, Stop, With, Stands, AllStand, term}
 use Rattle.term_meaning.specs.Filling.{trees}

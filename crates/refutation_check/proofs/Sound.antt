@@ -1,23 +1,21 @@
 -- A condition that follows is true in every environment.
-use Rattle.std.proofs.Common.{◌≡◌, ◌⊎◌, inl, inr, ℕ, ℤ, zero, suc, ◌+◌, ◌<◌, ◌≤◌, List, [], ◌∷◌, ◌++◌, map, length, Option, Some, None, MatchOption, slice_get, option_and_then, Bool, true, false, ◌||◌, if◌then◌else◌, refl, ap, sym, ◌∙◌, subst, arith}
+use Rattle.std.proofs.Common.{◌≡◌, ℕ, ℤ, zero, suc, ◌+◌, ◌<◌, List, [], ◌∷◌, length, Option, Some, None, slice_get, option_and_then, Bool, true, false, ◌||◌, if◌then◌else◌, refl, ap, sym, ◌∙◌, subst, arith}
 use Rattle.std.proofs.lemmas.Option.{slice_get_within}
 use borrow.Author.Count.{below_more}
 use Rattle.terms.specs.declared.term.Term.{Term}
 use Rattle.terms.specs.declared.term.Literal.{Literal}
 use Rattle.terms.specs.declared.sort.Sort.{Sort}
-use Rattle.terms.specs.Formula.{Formula, Stands, Numbers}
+use Rattle.terms.specs.Formula.{Formula, Numbers}
 use Rattle.terms.proofs.Numbering.{numbers_stand}
 use Rattle.term_bank.specs.Bank.{IsBank}
-use Rattle.term_graph.specs.Graph.{IsGraph}
-use Rattle.term_meaning.specs.Meaning.{Language, Env, IsEnv, Value, truth, Gives, IsValuation, IsFaithful, IsValid, IsAlwaysTrue, clause_true, sort_in}
+use Rattle.term_meaning.specs.Meaning.{Language, Env, IsEnv, Value, truth, IsValuation, IsFaithful, IsValid, IsAlwaysTrue, clause_true}
 use Rattle.term_meaning.specs.Filling.{IsLayered}
 use Rattle.term_meaning.proofs.Valuations.{by_number, trees as tree_value}
 use Rattle.axiom_instances.specs.Axioms.{instance}
 use Rattle.axiom_instances.proofs.All.{axioms_are_true}
 use Rattle.axiom_steps.specs.Steps.{instance_at, natural, naturals}
 use Rattle.term_sorts.specs.Sorting.{AreSortsIn}
-use Rattle.vcc_rules.specs.Law.{EarlierHold, IsConsequence, AreSortsOf}
-use Rattle.vcc_rules.specs.Rows.{yes}
+use Rattle.vcc_rules.specs.Law.{IsConsequence, AreSortsOf}
 use Rattle.vcc_rules.specs.Sound.{root_sound, connective_sound, chain_sound}
 use Rattle.rule_equality.specs.Sound.{refl_sound, sym_sound, trans_sound, congruence_sound}
 use Rattle.rule_linear.specs.Sound.{linear_sound}
@@ -31,11 +29,11 @@ use Rattle.cert_format.specs.declared.certificate.Step.{Step}
 use Rattle.condition_formulas.specs.Standing.{StandsAs}
 use Rattle.block_layout.specs.declared.loaded.LoadedStep.{LoadedStep}
 use Rattle.block_layout.specs.Trees.{sorted_tree}
-use Rattle.block_layout.specs.Layout.{Laid, IsLaid, IsLayout, IsNode, instance_in, instance_of, if_axiom, truth_value, is_truth, but_last}
-use Rattle.block_layout.proofs.Lists.{below_gets, get_front, take_all}
+use Rattle.block_layout.specs.Layout.{Laid, IsLayout, IsNode, instance_in, instance_of, if_axiom, truth_value, is_truth, but_last}
+use Rattle.block_layout.proofs.Lists.{below_gets, get_front}
 use Rattle.block_layout.proofs.Named.{node_stands}
 use Rattle.refutation_check.specs.Rows.{IsRow, IsAxiom, IsGivenAt}
-use Rattle.refutation_check.specs.Follows.{Refutes, Follows, EndsEmpty}
+use Rattle.refutation_check.specs.Follows.{Refutes, Follows}
 use Rattle.refutation_check.proofs.Own.{own_tree, grown_front}
 
 -- ---- the sorts that rules hold

@@ -1,5 +1,5 @@
 -- What a loaded block shows.
-use Rattle.std.proofs.Common.{◌≡◌, ◌⊎◌, inl, inr, ℕ, suc, ◌∷◌, ◌+◌, ◌<◌, ◌≤◌, List, [], length, map, take, Option, Some, None, Result, Ok, Err, slice_get, IsTrue, ◌↔◌, Bool, true, false, refl, ap, sym, ◌∙◌, subst, arith}
+use Rattle.std.proofs.Common.{◌≡◌, inl, inr, ℕ, suc, ◌∷◌, ◌<◌, ◌≤◌, List, [], length, map, take, Option, Some, None, Result, Ok, Err, IsTrue, ◌↔◌, Bool, true, false, refl, ap, sym, ◌∙◌, subst, arith}
 use Rattle.int_ranges.specs.declared.exact.Wide.{Wide}
 use Rattle.terms.specs.declared.term.Term.{Term}
 use Rattle.terms.specs.declared.term.Literal.{Literal}
@@ -10,7 +10,7 @@ use Rattle.block_layout.specs.declared.loaded.Loaded.{Loaded}
 use Rattle.block_layout.specs.declared.loaded.Stop.{Stop}
 use Rattle.block_layout.specs.declared.loaded.Stop.TheVariants as s
 use Rattle.block_layout.specs.declared.space.Space.{Space}
-use Rattle.block_layout.specs.Layout.{Laid, IsLayout, clause_in}
+use Rattle.block_layout.specs.Layout.{clause_in}
 use Rattle.block_layout.specs.Loading.{laid_in, AreLaid, IsLoaded, IsLoadedTo, IsPastLimit, IsUnnamed}
 use Rattle.std.proofs.lemmas.Option.{slice_get_within}
 use Rattle.block_layout.proofs.Lists.{take_long}
@@ -18,8 +18,7 @@ use Rattle.refutation_check.specs.declared.answer.Answer.{Answer}
 use Rattle.refutation_check.specs.declared.answer.Answer.TheVariants as a
 use Rattle.refutation_check.specs.declared.answer.CheckFault.{CheckFault}
 use Rattle.refutation_check.specs.declared.answer.CheckFault.TheVariants as f
-use Rattle.refutation_check.specs.Rows.{IsGivenAt}
-use Rattle.refutation_check.specs.Judging.{has_steps, IsUnloaded, IsEnding, IsWhole, Empty, Other, IsSomeLoaded, IsFirstFailure, FirstFailure, Judges}
+use Rattle.refutation_check.specs.Judging.{has_steps, IsUnloaded, IsEnding, IsWhole, Empty, Other, IsSomeLoaded, IsFirstFailure, Judges}
 use Rattle.refutation_check.specs.Follows.{IsAnswer, FrontLaid, Refutes, FailsFirst, LeavesFirst, EndsEmpty}
 use Rattle.refutation_check.proofs.Within.{layout_within}
 

@@ -44,6 +44,10 @@ module _ (nodes : List Term) (sorts : List (Option Sort)) (root : Option ℕ) (c
   RowLeaves r.Cut w = CutLeaves sorts nodes step.numbers clause w
   RowLeaves _ w = ⊥
 
+  -- no number that the row works out leaves 128 bits
+  abbrev pub RowFits : RuleName → Type 0
+  RowFits rule = (w : Wide) → RowLeaves rule w → ⊥
+
 -- yes, exactly where the row of the step's rule gives the clause
 abbrev pub DecidesRow : Space → Clauses → ℕ → LoadedStep → List Literal → Result Bool Wide → Type 0
 DecidesRow space clauses below step clause result =
@@ -54,13 +58,19 @@ abbrev pub DecidesWide : Space → Clauses → ℕ → LoadedStep → List Liter
 DecidesWide space clauses below step clause result =
     IfErr result (RowLeaves space.graph space.sorts clauses.root clauses.list.items below step clause step.rule)
 
--- the laid out step with this number is given from those before it
+-- where there is an answer, no number leaves them
+abbrev pub DecidesWithin : Space → Clauses → ℕ → LoadedStep → List Literal → Result Bool Wide → Type 0
+DecidesWithin space clauses below step clause result =
+    IfOk result (λ yes. RowFits space.graph space.sorts clauses.root clauses.list.items below step clause step.rule)
+
+-- The laid out step with this number is given from those before it, and is worked out within 128 bits.
 pub record IsGivenAt (laid : Laid) (i : ℕ) : Type 0 where
   pub step : LoadedStep
   pub clause : List Literal
   pub at : slice_get laid.steps i ≡ Some step
   pub clause_at : slice_get laid.clauses i ≡ Some clause
   pub row : IsRow laid.nodes laid.sorts (Some laid.root) laid.clauses i step clause step.rule
+  pub within : RowFits laid.nodes laid.sorts (Some laid.root) laid.clauses i step clause step.rule
 
 -- working it out leaves 128 bits, first at these operands
 pub record LeavesAt (laid : Laid) (i : ℕ) (w : Wide) : Type 0 where

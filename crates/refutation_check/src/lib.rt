@@ -3,4 +3,5 @@
 
 pub mod answer;
 pub mod check;
+pub mod laws;
 mod steps;

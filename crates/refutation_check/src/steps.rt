@@ -2,7 +2,7 @@
 
 ghost use Rattle.std.specs.Prelude.{◌≡◌, ◌↔◌, ◌<◌, ◌≤◌, length, IsTrue, List, ℤ, pos, [], ◌∷◌, ◌++◌, slice_get, Some};
 ghost use Rattle.vcc_rules.specs.Law.{IsWithin, AreWithin};
-ghost use Rattle.refutation_check.specs.Rows.{DecidesRow, DecidesWide, IsAxiom};
+ghost use Rattle.refutation_check.specs.Rows.{DecidesRow, DecidesWide, DecidesWithin, IsAxiom};
 ghost use Rattle.refutation_check.specs.Follows.{EndsEmpty};
 ghost use Rattle.refutation_check.specs.Judging.{IsFirstFailure};
 
@@ -59,6 +59,7 @@ fn is_given(
     requires clause_within { IsWithin (length space.now.graph) clause.now }
     requires room { scratch.old ≡ length space.now.graph }
     ensures rows { DecidesRow space.now clauses.now below step.now clause.now result }
+    ensures exact { DecidesWithin space.now clauses.now below step.now clause.now result }
     ensures wide { DecidesWide space.now clauses.now below step.now clause.now result }
     ensures room { scratch.new ≡ scratch.old }
 {

@@ -12,13 +12,13 @@ use Rattle.rule_layouts.proofs.Trees.{some_is}
 use Rattle.rule_layouts.proofs.Blocks.{given_same}
 
 -- terms have one list of trees
-grown_same : (tree : List Formula → Term → Option Formula) (first : List Formula) (ts : List Term) (all others : List Formula) → Grow tree first ts all → Grow tree first ts others → all ≡ others
+pub grown_same : (tree : List Formula → Term → Option Formula) (first : List Formula) (ts : List Term) (all others : List Formula) → Grow tree first ts all → Grow tree first ts others → all ≡ others
 grown_same tree first [] all others h k = h ∙ sym k
 grown_same tree first (t ∷ ts) all others (f, e, g) (f', e', g') =
     let same : f' ≡ f = some_is f' f (sym e' ∙ e) in
     grown_same tree (first ++ f ∷ []) ts all others g (subst (λ (x : Formula). Grow tree (first ++ x ∷ []) ts others) same g')
 
-trees_same : (l : Language) (own added : List Term) (all others : List Formula) → AreTrees l own added all → AreTrees l own added others → all ≡ others
+pub trees_same : (l : Language) (own added : List Term) (all others : List Formula) → AreTrees l own added all → AreTrees l own added others → all ≡ others
 trees_same l own added all others p q =
     let same : q.first ≡ p.first = grown_same tree_over [] own q.first p.first q.own_trees p.own_trees in
     grown_same (sorted_tree l) p.first added all others p.added_trees (subst (λ (x : List Formula). Grow (sorted_tree l) x added others) same q.added_trees)
@@ -36,7 +36,7 @@ in_front (suc n) [] i x l h = absurd (omega (arith, l))
 in_front (suc n) (y ∷ xs) zero x l h = h
 in_front (suc n) (y ∷ xs) (suc i) x l h = in_front n xs i x (omega (arith, l)) h
 
-map_length : {X Y : Type 0} (f : X → Y) (xs : List X) → length (map f xs) ≡ length xs
+pub map_length : {X Y : Type 0} (f : X → Y) (xs : List X) → length (map f xs) ≡ length xs
 map_length f [] = refl
 map_length f (x ∷ xs) = ap suc (map_length f xs)
 

@@ -1,6 +1,7 @@
 -- A step that is given in one layout of a block is given in every other one.
 use Rattle.std.proofs.Common.{◌≡◌, ℕ, zero, suc, ◌<◌, ◌≤◌, ℤ, pos, List, [], ◌∷◌, ◌++◌, map, length, Option, Some, None, slice_get, refl, ap, sym, ◌∙◌, subst, arith}
 use Rattle.std.proofs.lemmas.Option.{slice_get_within}
+use Rattle.int_ranges.specs.declared.exact.Wide.{Wide}
 use Rattle.terms.specs.declared.term.Term.{Term}
 use Rattle.terms.specs.declared.term.Literal.{Literal}
 use Rattle.terms.specs.declared.sort.Sort.{Sort}
@@ -8,18 +9,21 @@ use Rattle.terms.specs.Formula.{Formula, Stands}
 use Rattle.term_meaning.specs.Meaning.{Language}
 use Rattle.term_sorts.specs.Sorting.{AreSortsIn}
 use Rattle.vcc_rules.specs.Rows.{yes}
+use Rattle.rule_linear.specs.Rows.{LinearLeaves}
+use Rattle.rule_linear.specs.Cuts.{CutLeaves}
 use Rattle.cert_format.specs.declared.certificate.RuleName.{RuleName}
 use Rattle.cert_format.specs.declared.certificate.RuleName.TheVariants as r
 use Rattle.cert_format.specs.declared.certificate.Step.{Step}
 use Rattle.block_layout.specs.declared.loaded.LoadedStep.{LoadedStep}
 use Rattle.block_layout.specs.Layout.{Laid, node_of, clause_over, clause_in, NamesTerms, numbers_over, instance_in, IsNode, IsLayout}
-use Rattle.refutation_check.specs.Rows.{IsAxiom, IsRow, IsGivenAt}
+use Rattle.refutation_check.specs.Rows.{IsAxiom, IsRow, RowLeaves, RowFits, IsGivenAt}
 use Rattle.rule_layouts.specs.Layouts.{SameTree, SameClause, SameNames, SameSorts}
-use Rattle.rule_layouts.proofs.Trees.{nodes, some_is, one_right, given_is}
+use Rattle.rule_layouts.proofs.Trees.{nodes, some_is, one_right, given_is, flip_clause}
 use Rattle.rule_layouts.proofs.Clauses.{root_same, connective_row_same, Earlier, closes_same}
 use Rattle.rule_layouts.proofs.Equality.{refl_same, sym_same, trans_same, congruence_same}
 use Rattle.rule_layouts.proofs.Maps.{map_same, SameMap}
 use Rattle.rule_layouts.proofs.Linear.{linear_same, cut_same, split_row_same}
+use Rattle.rule_layouts.proofs.Steps.{linear_leaves, cut_leaves}
 use Rattle.rule_layouts.proofs.Names.{all_raw, there_below, clause_same, numbers_same, root_named, conn_numbers, map_numbers, axiom_numbers}
 
 -- two tables of sorts of the same language
@@ -34,12 +38,12 @@ instances_same ts us f (Some a) (Some b) t (g, h, s) (k, m, w) e =
     let same : k ≡ g = some_is k g (sym m ∙ h) in
     (b, refl, record { tree = g; left = subst (λ (x : ℕ). Stands ts x g) (some_is a t e) s.tree; right = subst (λ (x : Formula). Stands us b x) same w.tree })
 
-mapped_at : {X Y : Type 0} (f : X → Y) (xs : List X) (i : ℕ) (y : Y) → slice_get (map f xs) i ≡ Some y → (x : X) × (slice_get xs i ≡ Some x) × (f x ≡ y)
+pub mapped_at : {X Y : Type 0} (f : X → Y) (xs : List X) (i : ℕ) (y : Y) → slice_get (map f xs) i ≡ Some y → (x : X) × (slice_get xs i ≡ Some x) × (f x ≡ y)
 mapped_at f [] i y h = absurd (cc)
 mapped_at f (x ∷ xs) zero y h = (x, refl, some_is (f x) y h)
 mapped_at f (x ∷ xs) (suc i) y h = mapped_at f xs i y h
 
-map_at : {X Y : Type 0} (f : X → Y) (xs : List X) (i : ℕ) (x : X) → slice_get xs i ≡ Some x → slice_get (map f xs) i ≡ Some (f x)
+pub map_at : {X Y : Type 0} (f : X → Y) (xs : List X) (i : ℕ) (x : X) → slice_get xs i ≡ Some x → slice_get (map f xs) i ≡ Some (f x)
 map_at f [] i x h = absurd (cc)
 map_at f (y ∷ xs) zero x h = ap (λ z. Some (f z)) (some_is y x h)
 map_at f (y ∷ xs) (suc i) x h = map_at f xs i x h
@@ -104,6 +108,30 @@ module _ (lang : Language) (trees : List Formula) (root : ℕ) (steps more : Lis
       subst (λ (ns : List ℤ). IsAxiom y.instance ns d) (sym g) (axiom_same zs x.instance y.instance c d f i j s (subst (λ (ns : List ℤ). IsAxiom x.instance ns c) e h))
   row_same r.Lemma zs x y c d below f i j e g s k h = absurd h
 
+  sorted_back : SameSorts b.nodes a.nodes b.sorts a.sorts
+  sorted_back = sorts_same lang b.nodes a.nodes b.sorts a.sorts q.sorts p.sorts
+
+  -- a number that leaves 128 bits, by the rule
+  leaves_same :
+      (rule : RuleName) (zs : List ℤ) (x y : LoadedStep) (c d : List Literal) (below : ℕ) (w : Wide)
+      → x.numbers ≡ numbers_over p.names rule zs → y.numbers ≡ numbers_over q.names rule zs → SameClause a.nodes b.nodes c d
+      → RowLeaves b.nodes b.sorts (Some b.root) b.clauses below y d rule w → RowLeaves a.nodes a.sorts (Some a.root) a.clauses below x c rule w
+  leaves_same r.Linear zs x y c d below w e g s h =
+      let same : y.numbers ≡ x.numbers = g ∙ (all_raw _ zs ∙ (sym (all_raw _ zs) ∙ sym e)) in
+      subst (λ (ns : List ℤ). LinearLeaves a.sorts a.nodes ns c w) same
+      (linear_leaves b.nodes a.nodes b.sorts a.sorts sorted_back q.graph p.graph y.numbers d c w (flip_clause a.nodes b.nodes c d s) h)
+  leaves_same r.Cut zs x y c d below w e g s h =
+      let same : y.numbers ≡ x.numbers = g ∙ (all_raw _ zs ∙ (sym (all_raw _ zs) ∙ sym e)) in
+      subst (λ (ns : List ℤ). CutLeaves a.sorts a.nodes ns c w) same
+      (cut_leaves b.nodes a.nodes b.sorts a.sorts sorted_back q.graph p.graph y.numbers d c w (flip_clause a.nodes b.nodes c d s) h)
+  leaves_same _ zs x y c d below w e g s h = absurd h
+
+  fits_same :
+      (rule : RuleName) (zs : List ℤ) (x y : LoadedStep) (c d : List Literal) (below : ℕ)
+      → x.numbers ≡ numbers_over p.names rule zs → y.numbers ≡ numbers_over q.names rule zs → SameClause a.nodes b.nodes c d
+      → RowFits a.nodes a.sorts (Some a.root) a.clauses below x c rule → RowFits b.nodes b.sorts (Some b.root) b.clauses below y d rule
+  fits_same rule zs x y c d below e g s fits = λ w h. fits w (leaves_same rule zs x y c d below w e g s h)
+
   -- the clauses before a step
   earlier : (below : ℕ) → ((k : ℕ) (s : Step) → k < below → slice_get steps k ≡ Some s → slice_get more k ≡ Some s) → Earlier a.nodes b.nodes p.graph q.graph a.clauses b.clauses below
   earlier below common k c l h =
@@ -127,10 +155,13 @@ module _ (lang : Language) (trees : List Formula) (root : ℕ) (steps more : Lis
       let row = row_same m.0.rule m.0.numbers g.step y.0 g.clause (clause_in q.names m.0) i (instance_in lang trees m.0) x.instance z.instance x.numbers z.numbers clauses
       (earlier i (λ k s h. common k s (omega (arith, h))))
       (subst (λ (r : RuleName). IsRow a.nodes a.sorts (Some a.root) a.clauses i g.step g.clause r) x.rule g.row) in
+      let fits = fits_same m.0.rule m.0.numbers g.step y.0 g.clause (clause_in q.names m.0) i x.numbers z.numbers clauses
+      (subst (λ (r : RuleName). RowFits a.nodes a.sorts (Some a.root) a.clauses i g.step g.clause r) x.rule g.within) in
       record {
         step = y.0;
         clause = clause_in q.names m.0;
         at = y.1;
         clause_at = ap (λ cs. slice_get cs i) q.clauses ∙ map_at (clause_in q.names) more i m.0 there;
         row = subst (λ (r : RuleName). IsRow b.nodes b.sorts (Some b.root) b.clauses i y.0 (clause_in q.names m.0) r) (sym z.rule) row;
+        within = subst (λ (r : RuleName). RowFits b.nodes b.sorts (Some b.root) b.clauses i y.0 (clause_in q.names m.0) r) (sym z.rule) fits;
       }

@@ -6,6 +6,8 @@ pub mod Equality
 pub mod Linear
 pub mod Maps
 pub mod Names
+pub mod Once
 pub mod Sides
+pub mod Steps
 pub mod Sums
 pub mod Trees

@@ -105,7 +105,7 @@ module _ (ts us : List Term) where
     one_known v false = inr refl
 
     module _ (gt : IsGraph ts) (gu : IsGraph us) where
-      difference_same : (b c : Bound) → SameSides b c → SameSum ts us (difference ts b) (difference us c)
+      pub difference_same : (b c : Bound) → SameSides b c → SameSum ts us (difference ts b) (difference us c)
       difference_same b c s = (sum_same ts us gt gu b.left c.left s.left, sum_same ts us gt gu b.right c.right s.right)
 
       one_same : (x y : Bool) (p q : Part) → x ≡ y → SamePart ts us p q → one_of x p ≡ one_of y q
@@ -124,7 +124,7 @@ module _ (ts us : List Term) where
       bound_number_known v b c s =
           plus_known ts us v (number_of (difference us c) (Coefficient v)) (one_of c.strict (Coefficient v)) (sum_known ts us v (difference ts b) (difference us c) (difference_same b c s)) (one_known v c.strict)
 
-      literal_number_same : (b c : Option Bound) (p q : Part) → SameBound b c → SamePart ts us p q → literal_number ts b p ≡ literal_number us c q
+      pub literal_number_same : (b c : Option Bound) (p q : Part) → SameBound b c → SamePart ts us p q → literal_number ts b p ≡ literal_number us c q
       literal_number_same None None p q s k = refl
       literal_number_same None (Some c) p q s k = absurd s
       literal_number_same (Some b) None p q s k = absurd s
@@ -197,11 +197,11 @@ module _ (ts us : List Term) where
       some_bound (Some a) None b s e = absurd s
       some_bound (Some a) (Some c) b s e = (c, refl, subst (λ (z : Bound). SameSides z c) (some_is a b e) s)
 
-      concluded : (l m : Literal) (b : Bound) → SameLiteral ts us l m → conclusion ts l ≡ Some b → (c : Bound) × (conclusion us m ≡ Some c) × SameSides b c
+      pub concluded : (l m : Literal) (b : Bound) → SameLiteral ts us l m → conclusion ts l ≡ Some b → (c : Bound) × (conclusion us m ≡ Some c) × SameSides b c
       concluded l m b s e = some_bound (conclusion ts l) (conclusion us m) b (conclusion_of_nodes l m (nodes ts us l.term m.term s.0) s.1) e
 
       -- a clause with its last literal
-      split_same : (ls : List Literal) (l : Literal) (d : List Literal) → SameClause ts us (ls ++ l ∷ []) d → (ms : List Literal) × (m : Literal) × (d ≡ ms ++ m ∷ []) × SameClause ts us ls ms × SameLiteral ts us l m
+      pub split_same : (ls : List Literal) (l : Literal) (d : List Literal) → SameClause ts us (ls ++ l ∷ []) d → (ms : List Literal) × (m : Literal) × (d ≡ ms ++ m ∷ []) × SameClause ts us ls ms × SameLiteral ts us l m
       split_same [] l [] s = absurd s
       split_same [] l (m ∷ []) s = ([], m, refl, tt, s.0)
       split_same [] l (m ∷ n ∷ d) s = absurd s.1

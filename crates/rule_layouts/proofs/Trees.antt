@@ -29,6 +29,12 @@ bool_same false false f g = refl
 pub flip : (ts us : List Term) (a b : ℕ) → SameTree ts us a b → SameTree us ts b a
 flip ts us a b x = record { tree = x.tree; left = x.right; right = x.left }
 
+pub flip_clause : (ts us : List Term) (c d : List Literal) → SameClause ts us c d → SameClause us ts d c
+flip_clause ts us [] [] s = tt
+flip_clause ts us [] (m ∷ ms) s = absurd s
+flip_clause ts us (l ∷ ls) [] s = absurd s
+flip_clause ts us (l ∷ ls) (m ∷ ms) s = ((flip ts us l.term m.term s.0.0, sym s.0.1), flip_clause ts us ls ms s.1)
+
 -- arguments of one node
 pub same_args : (ts us : List Term) (as' bs : List ℕ) (fs : Formulas) → AllStand ts as' fs → AllStand us bs fs → SameTrees ts us as' bs
 same_args ts us as' bs Stop p q = subst (λ (xs : List ℕ). SameTrees ts us xs bs) (sym p) (subst (λ (ys : List ℕ). SameTrees ts us [] ys) (sym q) tt)

@@ -1,5 +1,4 @@
-use Rattle.std.proofs.Common.{◌≡◌, ◌≤◌, ℕ, List, length, take, ap, sym, ◌∙◌, subst}
-use Rattle.terms.specs.declared.term.Term.{Term}
+use Rattle.std.proofs.Common.{◌≤◌, ℕ, length, take, ap, sym, ◌∙◌, subst}
 use Rattle.block_layout.proofs.Spaces.{later_front, later_longer}
 use Rattle.refutation_check.proofs.Sound.{refuted_valid}
 use Rattle.refutation_check.proofs.Verdicts.{refuted}

@@ -1,4 +1,4 @@
-use Rattle.std.proofs.Common.{rules, ◌≡◌, ◌<◌, ◌≤◌, ℕ, length, true, ◌∙◌}
+use Rattle.std.proofs.Common.{rules, ◌≡◌, ◌<◌, ◌≤◌, length, true, ◌∙◌}
 use Rattle.std.proofs.lemmas.Result.{err_from_is_err_and}
 use Rattle.refutation_check.proofs.Judged.{given_more, fails_at, leaves_at, all_given}
 use Rattle.refutation_check.proofs.steps.first_failure.Goals as goal
@@ -23,7 +23,7 @@ pub loop-i-preserved : goal.loop-i-preserved
 loop-i-preserved c = record {
   room = c.is_given.ensures.room ∙ c.loop-i.invariant.room;
   given = given_more c.args.space.now c.args.loaded.now c.loop-i.i c.step_at-step.result.now c.clause_at-clause.result.now
-      (record { step_at = c.step_at-step.ensures; clause_at = c.clause_at-clause.ensures }) (c.in_ok-given.ensures.rows.0 c.if-not-given.false) c.loop-i.invariant.given;
+      (record { step_at = c.step_at-step.ensures; clause_at = c.clause_at-clause.ensures }) (c.in_ok-given.ensures.rows.0 c.if-not-given.false) c.in_ok-given.ensures.exact c.loop-i.invariant.given;
 }
 
 pub returns : goal.returns

@@ -1,4 +1,4 @@
-use Rattle.std.proofs.Common.{◌≡◌, ℕ, ◌<◌, Some, length}
+use Rattle.std.proofs.Common.{◌≡◌, ℕ, Some, length}
 use Rattle.block_layout.specs.Loading.{laid_in}
 use Rattle.refutation_check.specs.Judging.{AreGiven}
 use Rattle.refutation_check.proofs.steps.first_failure.Given as goal

@@ -1,6 +1,6 @@
-use Rattle.std.proofs.Common.{◌≡◌, IsTrue}
+use Rattle.std.proofs.Common.{Ok, false}
 use Rattle.cert_format.specs.declared.certificate.RuleName.TheVariants as r
-use Rattle.refutation_check.proofs.Judged.{row_named, row_sorted}
+use Rattle.refutation_check.proofs.Judged.{row_named, row_sorted, fits_named, fits_sorted}
 use Rattle.refutation_check.proofs.steps.is_given.Goals as goal
 
 pub returns-in-Root-clause-rows : goal.returns-in-Root-clause-rows
@@ -52,3 +52,68 @@ pub returns-in-Map-clause-rows : goal.returns-in-Map-clause-rows
 returns-in-Map-clause-rows c =
     row_sorted c.args.space.now.graph c.as_slice-sorts.result.now c.args.space.now.sorts c.args.clauses.now.root c.args.clauses.now.list.items c.args.below c.args.step.now c.args.clause.now c.concludes-in-Map.result
     c.args.step.now.rule r.Map c.as_slice-sorts.ensures c.in-Map.is c.concludes-in-Map.ensures.rows
+
+pub returns-in-Root-clause-exact : goal.returns-in-Root-clause-exact
+returns-in-Root-clause-exact c =
+    fits_named c.args.space.now.graph c.args.space.now.sorts c.args.clauses.now.root c.args.clauses.now.list.items c.args.below c.args.step.now c.args.clause.now c.concludes.result
+    c.args.step.now.rule r.Root c.in-Root.is c.concludes.ensures.exact
+
+pub returns-in-Conn-clause-exact : goal.returns-in-Conn-clause-exact
+returns-in-Conn-clause-exact c =
+    fits_named c.args.space.now.graph c.args.space.now.sorts c.args.clauses.now.root c.args.clauses.now.list.items c.args.below c.args.step.now c.args.clause.now c.concludes-in-Conn.result
+    c.args.step.now.rule r.Conn c.in-Conn.is c.concludes-in-Conn.ensures.exact
+
+pub returns-in-Chain-clause-exact : goal.returns-in-Chain-clause-exact
+returns-in-Chain-clause-exact c =
+    fits_named c.args.space.now.graph c.args.space.now.sorts c.args.clauses.now.root c.args.clauses.now.list.items c.args.below c.args.step.now c.args.clause.now c.concludes-in-Chain.result
+    c.args.step.now.rule r.Chain c.in-Chain.is c.concludes-in-Chain.ensures.exact
+
+pub returns-in-Refl-clause-exact : goal.returns-in-Refl-clause-exact
+returns-in-Refl-clause-exact c =
+    fits_named c.args.space.now.graph c.args.space.now.sorts c.args.clauses.now.root c.args.clauses.now.list.items c.args.below c.args.step.now c.args.clause.now c.concludes-in-Refl.result
+    c.args.step.now.rule r.Refl c.in-Refl.is c.concludes-in-Refl.ensures.exact
+
+pub returns-in-Sym-clause-exact : goal.returns-in-Sym-clause-exact
+returns-in-Sym-clause-exact c =
+    fits_named c.args.space.now.graph c.args.space.now.sorts c.args.clauses.now.root c.args.clauses.now.list.items c.args.below c.args.step.now c.args.clause.now c.concludes-in-Sym.result
+    c.args.step.now.rule r.Sym c.in-Sym.is c.concludes-in-Sym.ensures.exact
+
+pub returns-in-Trans-clause-exact : goal.returns-in-Trans-clause-exact
+returns-in-Trans-clause-exact c =
+    fits_named c.args.space.now.graph c.args.space.now.sorts c.args.clauses.now.root c.args.clauses.now.list.items c.args.below c.args.step.now c.args.clause.now c.concludes-in-Trans.result
+    c.args.step.now.rule r.Trans c.in-Trans.is c.concludes-in-Trans.ensures.exact
+
+pub returns-in-Cong-clause-exact : goal.returns-in-Cong-clause-exact
+returns-in-Cong-clause-exact c =
+    fits_sorted c.args.space.now.graph c.as_slice-sorts.result.now c.args.space.now.sorts c.args.clauses.now.root c.args.clauses.now.list.items c.args.below c.args.step.now c.args.clause.now c.concludes-in-Cong.result
+    c.args.step.now.rule r.Cong c.as_slice-sorts.ensures c.in-Cong.is c.concludes-in-Cong.ensures.exact
+
+pub returns-in-Linear-clause-exact : goal.returns-in-Linear-clause-exact
+returns-in-Linear-clause-exact c =
+    fits_sorted c.args.space.now.graph c.as_slice-sorts.result.now c.args.space.now.sorts c.args.clauses.now.root c.args.clauses.now.list.items c.args.below c.args.step.now c.args.clause.now c.concludes-in-Linear.result
+    c.args.step.now.rule r.Linear c.as_slice-sorts.ensures c.in-Linear.is c.concludes-in-Linear.ensures.exact
+
+pub returns-in-Cut-clause-exact : goal.returns-in-Cut-clause-exact
+returns-in-Cut-clause-exact c =
+    fits_sorted c.args.space.now.graph c.as_slice-sorts.result.now c.args.space.now.sorts c.args.clauses.now.root c.args.clauses.now.list.items c.args.below c.args.step.now c.args.clause.now c.concludes-in-Cut.result
+    c.args.step.now.rule r.Cut c.as_slice-sorts.ensures c.in-Cut.is c.concludes-in-Cut.ensures.exact
+
+pub returns-in-Split-clause-exact : goal.returns-in-Split-clause-exact
+returns-in-Split-clause-exact c =
+    fits_sorted c.args.space.now.graph c.as_slice-sorts.result.now c.args.space.now.sorts c.args.clauses.now.root c.args.clauses.now.list.items c.args.below c.args.step.now c.args.clause.now c.concludes-in-Split.result
+    c.args.step.now.rule r.Split c.as_slice-sorts.ensures c.in-Split.is c.concludes-in-Split.ensures.exact
+
+pub returns-in-Map-clause-exact : goal.returns-in-Map-clause-exact
+returns-in-Map-clause-exact c =
+    fits_sorted c.args.space.now.graph c.as_slice-sorts.result.now c.args.space.now.sorts c.args.clauses.now.root c.args.clauses.now.list.items c.args.below c.args.step.now c.args.clause.now c.concludes-in-Map.result
+    c.args.step.now.rule r.Map c.as_slice-sorts.ensures c.in-Map.is c.concludes-in-Map.ensures.exact
+
+pub returns-in-Axiom-clause-exact : goal.returns-in-Axiom-clause-exact
+returns-in-Axiom-clause-exact c =
+    fits_named c.args.space.now.graph c.args.space.now.sorts c.args.clauses.now.root c.args.clauses.now.list.items c.args.below c.args.step.now c.args.clause.now (Ok c.is_axiom.result)
+    c.args.step.now.rule r.Axiom c.in-Axiom.is (λ w h. h)
+
+pub returns-in-Lemma-clause-exact : goal.returns-in-Lemma-clause-exact
+returns-in-Lemma-clause-exact c =
+    fits_named c.args.space.now.graph c.args.space.now.sorts c.args.clauses.now.root c.args.clauses.now.list.items c.args.below c.args.step.now c.args.clause.now (Ok false)
+    c.args.step.now.rule r.Lemma c.in-Lemma.is (λ w h. h)
