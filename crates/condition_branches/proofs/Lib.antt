@@ -1,0 +1,5 @@
+pub mod Known
+pub mod Knowing
+pub mod Joining
+pub mod Guarding
+pub mod Going

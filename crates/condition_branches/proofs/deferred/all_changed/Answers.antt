@@ -1,0 +1,4 @@
+use Rattle.condition_branches.proofs.deferred.all_changed.Goals as goal
+
+pub returns : goal.returns
+returns c = λ ts b ds es gs hb hf hd he hg. c.in_ok-add_changed-2.ensures ts _ _ gs hf (c.in_ok-add_changed.ensures ts b ds es hb hd he) hg

@@ -1,0 +1,4 @@
+pub mod Facts
+pub mod Guards
+pub mod Joins
+pub mod Ways

@@ -1,0 +1,5 @@
+pub mod Places
+pub mod Objects
+pub mod Exchanges
+pub mod Members
+pub mod Changes
