@@ -1,0 +1,8 @@
+use Rattle.condition_code.proofs.States.{spot_later, state_later}
+use Rattle.condition_code.proofs.Walks.{run_then}
+use Rattle.condition_actions.proofs.actions.unwrap.Goals as goal
+
+pub returns : goal.returns
+returns c = λ b s hb hs.
+    let x = c.in_ok-o.ensures b s hb hs in
+    run_then x (c.in_ok-state.ensures b _ s (spot_later x.goes.later hb) x.gives (state_later x.goes.later hs))

@@ -1,0 +1,4 @@
+pub mod Settling
+pub mod Each
+pub mod Onward
+pub mod Noted

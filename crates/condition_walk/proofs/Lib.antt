@@ -1,0 +1,7 @@
+pub mod Runs
+pub mod Steps
+pub mod Forms
+pub mod Receiving
+pub mod Entries
+pub mod Ways
+pub mod Paths

@@ -1,0 +1,9 @@
+use Rattle.condition_code.proofs.States.{spot_later}
+use Rattle.condition_code.proofs.Walks.{run_then}
+use Rattle.condition_walk.proofs.Steps.{same_interference}
+use Rattle.condition_walk.proofs.statements.action_statement.Goals as goal
+
+pub returns : goal.returns
+returns c = λ b s hb hs.
+    let moved = same_interference s c.action_reads.ensures c.is_quiet.ensures (c.in_ok-moved.ensures s hs) in
+    run_then moved (c.in_ok-acted.ensures b _ (spot_later moved.goes.later hb) moved.gives)
