@@ -1,0 +1,5 @@
+pub mod Lists
+pub mod Remaining
+pub mod Shown
+pub mod Verified
+pub mod Deciding

@@ -1,0 +1,5 @@
+pub mod Faults
+pub mod Remaining
+pub mod Shows
+pub mod Verdicts
+pub mod Laws

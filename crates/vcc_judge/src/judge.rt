@@ -1,0 +1,92 @@
+//! Judging a program by the blocks of a certificate.
+
+ghost use Rattle.std.specs.Prelude.{◌≡◌, ◌<◌, length, slice_get, Ok, Some};
+ghost use Rattle.method.specs.Labels as spec;
+ghost use Rattle.term_meaning.specs.Meaning.{IsFaithful};
+ghost use Rattle.term_meaning.specs.Filling.{IsLayered};
+ghost use Rattle.block_layout.specs.Space.{IsTheory};
+ghost use Rattle.condition_meaning.specs.Languages.{language_of};
+ghost use Rattle.condition_meaning.specs.Promises.{ConditionsAreValid};
+ghost use Rattle.check_labels.specs.Labels.{labels_of};
+ghost use Rattle.vcc_judge.specs.Verdicts.{IsJudged};
+
+use crate::room::Room;
+use crate::sequence::Conditions;
+use crate::verdict::{JudgeFault, Verdict};
+use block_layout::space::Theory;
+use cert_format::certificate::Refutation;
+use check_labels::labels::ProgramLabel;
+use method::program::Program;
+use program_language::language::program_language;
+use std::alloc::Global;
+
+fn label_at(labels: &[ProgramLabel], i: usize) -> ProgramLabel
+    requires { i < length labels.now }
+    ensures { slice_get labels.now i ≡ Some result }
+{
+    labels[i]
+}
+
+fn block_at(blocks: &[Refutation], i: usize) -> &Refutation
+    requires { i < length blocks.now }
+    ensures { slice_get blocks.now i ≡ Some result.now }
+{
+    &blocks[i]
+}
+
+/// The same by the program's theory. The k-th condition goes with the k-th label and block; there are as many
+/// conditions as labels, so none is left behind the last block, and none lacks.
+#[tactic(auto, using(crate::proofs::Deciding::refused_judged))]
+fn judge_by(
+    alloc: Global,
+    theory: Theory<'_>,
+    labels: &[ProgramLabel],
+    blocks: &[Refutation],
+) -> Result<Verdict, JudgeFault>
+    requires theory { IsTheory theory (language_of theory.program.now) }
+    requires labels { labels_of labels.now ≡ spec.program_labels theory.program.now }
+    requires count { length labels.now ≡ length blocks.now }
+    ensures { IsJudged theory.entry.program.now blocks.now result }
+{
+    let mut conditions = Conditions::new(alloc);
+    let mut room = Room::new(alloc);
+    for i in 0..blocks.len() {
+        let given = conditions.give(theory.program)?;
+        let Some(condition) = given else {
+            return Ok(Verdict::Yes);
+        };
+        let block = block_at(blocks, i);
+        let holds = room.follows(theory, conditions.graph(), condition, block)?;
+        if !holds {
+            let label = label_at(labels, i);
+            return Ok(Verdict::No(label));
+        }
+    }
+    Ok(Verdict::Yes)
+}
+
+/// What the blocks show of the program, whose labels these are: one block for each condition, in order. One condition is
+/// judged at a time.
+///
+/// # Errors
+/// `Terms`, where a condition needs more than 1,048,576 terms; `Wide`, where a number leaves 128 bits; `OutOfMemory`, where
+/// memory is refused.
+pub fn judge(
+    alloc: Global,
+    program: &Program,
+    labels: &[ProgramLabel],
+    blocks: &[Refutation],
+) -> Result<Verdict, JudgeFault>
+    requires labels { labels_of labels.now ≡ spec.program_labels program.now }
+    requires count { length labels.now ≡ length blocks.now }
+    ensures judged { IsJudged program.now blocks.now result }
+    ensures valid { IsLayered (language_of program.now) → IsFaithful (language_of program.now) →
+        result ≡ Ok Verdict.Yes → ConditionsAreValid program.now }
+{
+    let language = program_language(alloc, program)?;
+    let theory = Theory {
+        program,
+        language: &language,
+    };
+    judge_by(alloc, theory, labels, blocks)
+}
