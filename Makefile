@@ -7,16 +7,16 @@ CORES := $(shell nproc)
 
 .PHONY: run build install test check fmt
 
-# Judges the first example and replays the lock, without proving anything first: about three minutes.
+# Judges the lock and replays it, without proving anything first: about four minutes.
 run:
 	@echo "unproved run; \`make test\` proves it"
-	@cd crates/vcc && rt try -- check $(EXAMPLES)/first.c $(EXAMPLES)/first.cert
+	@cd crates/vcc && rt try -- check $(EXAMPLES)/lock.c $(EXAMPLES)/lock.cert
 	@cd crates/vcc && rt try -- run $(EXAMPLES)/lock.c $(EXAMPLES)/lock.sched
 
 # Proves and builds the program and every crate below it, lowest first, on all cores: half an hour on four.
 build:
 	cd crates/vcc && rt all check --jobs $(CORES)
-	cd crates/vcc && rt run -- check $(EXAMPLES)/first.c $(EXAMPLES)/first.cert
+	cd crates/vcc && rt run -- check $(EXAMPLES)/lock.c $(EXAMPLES)/lock.cert
 
 # Puts the program that `make build` makes into PREFIX/bin.
 install: build

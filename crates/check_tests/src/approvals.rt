@@ -1,7 +1,7 @@
 //! Sources with owner approval, exact claimed sets and compared Interlocked calls, with the lines that `check` prints for them. Which
 //! rule is broken where was worked out by hand, from docs/TYPING.md.
 
-use crate::sources::hold;
+use crate::sources::{TYPES, hold};
 
 /// Rule 25: `\approves` is the whole of an invariant of a type, and names a volatile field of it.
 const APPROVALS: &[(&str, &str)] = &[
@@ -11,23 +11,23 @@ const APPROVALS: &[(&str, &str)] = &[
     ),
     (
         "struct F { volatile int a; _(invariant \\approves(\\this->\\owner, a)) }; void main() { }",
-        "source: not built",
+        TYPES,
     ),
     (
         "struct F { volatile int a; _(invariant ((\\approves(\\this->\\owner, a)))) }; void main() { }",
-        "source: not built",
+        TYPES,
     ),
     (
         "struct F { volatile int a; _(invariant \\approves(\\this->\\owner, a)) _(invariant \\approves(\\this->\\owner, a)) }; void main() { }",
-        "source: not built",
+        TYPES,
     ),
     (
         "struct F { _(invariant \\approves(\\this->\\owner, a)) volatile int a; }; void main() { }",
-        "source: not built",
+        TYPES,
     ),
     (
         "struct F { volatile int a; _(invariant a == 0) _(invariant \\approves(\\this->\\owner, a)) _(invariant a <= 1) }; void main() { }",
-        "source: not built",
+        TYPES,
     ),
     (
         "struct F { int a; _(invariant (\\approves(\\this->\\owner, a))) }; void main() { }",
@@ -79,39 +79,39 @@ const APPROVALS: &[(&str, &str)] = &[
 const EXACT_SETS: &[(&str, &str)] = &[
     (
         "_(claimable) struct A { int v; _(ghost \\claim k;) }; void main(struct A *p _(ghost \\claim c) _(ghost \\object o)) { _(assert \\claims_only(c, p)) }",
-        "source: not built",
+        TYPES,
     ),
     (
         "_(claimable) struct A { int v; _(ghost \\claim k;) }; void main(struct A *p _(ghost \\claim c) _(ghost \\object o)) { _(assert \\claims_only(c)) }",
-        "source: not built",
+        TYPES,
     ),
     (
         "_(claimable) struct A { int v; _(ghost \\claim k;) }; void main(struct A *p _(ghost \\claim c) _(ghost \\object o)) { _(assert \\claims_only(c, p, p, NULL, o, \\me, c)) }",
-        "source: not built",
+        TYPES,
     ),
     (
         "_(claimable) struct A { int v; _(ghost \\claim k;) }; void main(struct A *p _(ghost \\claim c) _(ghost \\object o)) { _(assert \\old(\\claims_only(c, p)) || \\unchanged(\\claims_only(c))) }",
-        "source: not built",
+        TYPES,
     ),
     (
         "_(claimable) struct A { int v; _(ghost \\claim k;) }; void main(struct A *p _(ghost \\claim c) _(ghost \\object o)) { while (1) _(invariant \\claims_only(c, p)) ; }",
-        "source: not built",
+        TYPES,
     ),
     (
         "_(claimable) struct A { int v; _(ghost \\claim k;) }; void f(struct A *p _(ghost \\claim c)) _(requires \\claims_only(c, p)) _(ensures !\\claims_only(c, p)) _(maintains \\claims_only(c)) { } void main() { }",
-        "source: not built",
+        TYPES,
     ),
     (
         "_(claimable) struct A { int v; _(ghost \\claim k;) _(invariant \\claims_only(k, \\this)) }; void main() { }",
-        "source: not built",
+        TYPES,
     ),
     (
         "_(claimable) struct A { int v; _(ghost \\claim k;) }; void main(struct A *p _(ghost \\claim c) _(ghost \\object o)) { _(assert \\forall \\object q; q \\in p->\\owns ==> \\claims_only(c, q)) }",
-        "source: not built",
+        TYPES,
     ),
     (
         "_(claimable) struct A { int v; _(ghost \\claim k;) }; void main(struct A *p _(ghost \\claim c) _(ghost \\object o)) { _(assert \\claims_only(p->k, p)) }",
-        "source: not built",
+        TYPES,
     ),
     (
         "_(claimable) struct A { int v; _(ghost \\claim k;) }; void main(struct A *p _(ghost \\claim c) _(ghost \\object o)) { _(assert \\claims_only(p, p)) }",
@@ -171,7 +171,7 @@ const COMPARED: &[(&str, &str)] = &[
     ),
     (
         "struct P { volatile int n; };\nvoid main(struct P *p, struct P *q) { int x = 0; _(atomic p) { x = InterlockedExchange(&p->n, 1) == 1; } }",
-        "source: not built",
+        TYPES,
     ),
 ];
 

@@ -38,17 +38,17 @@ const ROWS: &[(&str, &str, &str, u8)] = &[
     (FIVE, FIVE_STEPS, "yes\n", 0),
     (SAME, SAME_STEPS, "yes\n", 0),
     (FIVE, FIVE_SHORT_CHAIN, "no: main/1 Assert line 1\n", 1),
+    ("void main(int x) { x = 1; }", NO_CONDITIONS, "yes\n", 0),
     (
-        "void main(int x) { x = 1; }",
+        FIVE,
         NO_CONDITIONS,
-        "source: not built\n",
-        3,
+        "certificate: conditions 0, source has 1\n",
+        4,
     ),
-    (FIVE, NO_CONDITIONS, "certificate: refused\n", 4),
     (
         EMPTY,
         "vcc-cert 1\nconditions 0\nen",
-        "certificate: refused\n",
+        "certificate line 3: CutShort\n",
         4,
     ),
     (
@@ -59,7 +59,12 @@ const ROWS: &[(&str, &str, &str, u8)] = &[
     ),
     (FIRST, FIRST_CERT, "yes\n", 0),
     (FIRST, WRONG_CERT, "no: main/1 Assert line 4\n", 1),
-    (LOCK, NONE_CERT, "source: not built\n", 3),
+    (
+        LOCK,
+        NONE_CERT,
+        "certificate: conditions 0, source has 71\n",
+        4,
+    ),
     (TYPING, NONE_CERT, "source 11:6: rule 1\n", 3),
 ];
 
@@ -105,7 +110,7 @@ fn print(rt: &impl Abort, alloc: Global, words: &[&str], held: Held<'_>, line: &
 }
 
 /// A check of this source with this certificate prints this line, with this status.
-fn prints(rt: &impl Abort, alloc: Global, source: &str, cert: &str, line: &str, status: u8) {
+pub fn prints(rt: &impl Abort, alloc: Global, source: &str, cert: &str, line: &str, status: u8) {
     let held = [("s.c", source), ("C", cert)];
     print(rt, alloc, CHECK, &held, line, status);
 }

@@ -4,12 +4,14 @@
 #[cfg(test)]
 mod approvals;
 #[cfg(test)]
-mod commands;
+mod certificates;
 #[cfg(test)]
-mod conditions;
+mod commands;
 #[cfg(test)]
 mod rows;
 #[cfg(test)]
 mod sources;
+#[cfg(test)]
+mod translation;
 #[cfg(test)]
 mod typing;

@@ -674,7 +674,10 @@ const DEEP: &[(Repeated<'static>, usize)] = &[
 /// Sources, each with the line that `check` prints of it, without its end.
 pub type Table = &'static [(&'static str, &'static str)];
 
-/// The line and the status of a check of this source, with a certificate of no conditions.
+/// The line of a check without a certificate, where the source types.
+pub const TYPES: &str = "missing: C";
+
+/// The line and the status of a check of this source, without a certificate.
 fn checked(alloc: Global, source: &str) -> Result<(String, u8), AllocError> {
     let mut words = Vec::new(alloc);
     for word in ["check", "s.c", "C"] {
@@ -682,7 +685,6 @@ fn checked(alloc: Global, source: &str) -> Result<(String, u8), AllocError> {
     }
     let mut store = MemStore::new(alloc, Vec::new(alloc));
     store.hold("s.c", source.as_bytes())?;
-    store.hold("C", b"vcc-cert 1\nconditions 0\nend\n")?;
     let mut out = MemSink::new(alloc, Vec::new(alloc));
     let status = vcc_main(alloc, &words, &mut store, &mut out);
     let mut text = String::new(alloc);
@@ -702,7 +704,7 @@ pub fn gives(rt: &impl Abort, alloc: Global, source: &str, line: &str, status: u
     );
 }
 
-/// Each source of a table has its line behind this front, and status 3.
+/// Each source of a table has its line behind this front, and status 3, or 6 where it types.
 pub fn hold(rt: &impl Abort, alloc: Global, front: &str, table: Table) {
     for (source, line) in table {
         let text = repeated(alloc, &(front, source, "", "", ""), 1);
@@ -713,7 +715,7 @@ pub fn hold(rt: &impl Abort, alloc: Global, front: &str, table: Table) {
         is(
             rt,
             &(*source, printed.as_str(), status),
-            &(*source, *line, 3),
+            &(*source, *line, if *line == TYPES { 6 } else { 3 }),
         );
     }
 }
@@ -756,7 +758,7 @@ fn repeated(alloc: Global, pieces: &Repeated<'_>, count: usize) -> Result<String
 fn longest_types(rt: &impl Abort, alloc: Global, front: &str, piece: &str, count: usize) {
     let source = longest(alloc, front, piece, count, "}\n").expect(rt, "memory for a source");
     is(rt, &source.len(), &MOST_BYTES);
-    gives(rt, alloc, source.as_str(), "source: not built\n", 3);
+    gives(rt, alloc, source.as_str(), "missing: C\n", 6);
 }
 
 /// A source of the greatest length reads and types in good time: one long flat function, and the deepest brackets again and
@@ -773,7 +775,7 @@ fn longest_sources(rt: HostRuntime) {
 
 #[test]
 fn the_lock_types(rt: HostRuntime) {
-    gives(&rt, rt.alloc(), LOCK, "source: not built\n", 3);
+    gives(&rt, rt.alloc(), LOCK, "missing: C\n", 6);
 }
 
 /// So many pieces have this line and status.
@@ -793,7 +795,7 @@ fn repeated_gives(
 fn depths(rt: HostRuntime) {
     for (pieces, most) in DEEP {
         let more = most.saturating_add(1);
-        repeated_gives(&rt, rt.alloc(), pieces, *most, "source: not built\n", 3);
+        repeated_gives(&rt, rt.alloc(), pieces, *most, "missing: C\n", 6);
         repeated_gives(&rt, rt.alloc(), pieces, more, "limit: Depth 200\n", 5);
     }
 }
@@ -802,7 +804,7 @@ fn depths(rt: HostRuntime) {
 #[test]
 fn counts_of_tokens(rt: HostRuntime) {
     let flat = ("void main() {", ";", "", "", "}");
-    repeated_gives(&rt, rt.alloc(), &flat, 262_138, "source: not built\n", 3);
+    repeated_gives(&rt, rt.alloc(), &flat, 262_138, "missing: C\n", 6);
     repeated_gives(&rt, rt.alloc(), &flat, 262_139, "limit: Tokens 262144\n", 5);
 }
 

@@ -2,7 +2,7 @@
 //! where was worked out by hand, from docs/TYPING.md and the definitions of the rules.
 
 use crate::rows::is;
-use crate::sources::{gives, hold};
+use crate::sources::{TYPES, gives, hold};
 use std::alloc::{AllocError, Global};
 use std::fmt::Write;
 use std::process::Abort;
@@ -23,10 +23,7 @@ void two(int x, struct A *p _(ghost \\object o)) { }\n";
 const NAMES: &[(&str, &str)] = &[
     ("void main() { int a = 1; b = a; }", "source 2:26: rule 1"),
     ("void main() { int a = 1; a = b; }", "source 2:30: rule 1"),
-    (
-        "void main() { int a = 1; int b = a; b = a; }",
-        "source: not built",
-    ),
+    ("void main() { int a = 1; int b = a; b = a; }", TYPES),
     (
         "void main() { { int a = 1; a = 2; } a = 3; }",
         "source 2:37: rule 1",
@@ -43,18 +40,15 @@ const NAMES: &[(&str, &str)] = &[
     ),
     (
         "void main() { nothing(); later(); } void later() { }",
-        "source: not built",
+        TYPES,
     ),
     (
         "void main(struct A *p) { p->w = 1; }",
         "source 2:29: rule 1",
     ),
-    ("void main(struct C *p) { p->w = 1; }", "source: not built"),
+    ("void main(struct C *p) { p->w = 1; }", TYPES),
     ("void main(struct B *p) { }", "source 2:18: rule 1"),
-    (
-        "void main(struct B *p) { } struct B { int b; };",
-        "source: not built",
-    ),
+    ("void main(struct B *p) { } struct B { int b; };", TYPES),
     (
         "void main() { struct A *p = malloc(sizeof(struct B)); }",
         "source 2:50: rule 1",
@@ -67,17 +61,14 @@ const NAMES: &[(&str, &str)] = &[
         "void main() { _(ghost { int z; }) _(ghost z = 1) }",
         "source 2:43: rule 1",
     ),
-    (
-        "void main() { _(ghost int z) _(ghost z = 1) }",
-        "source: not built",
-    ),
+    ("void main() { _(ghost int z) _(ghost z = 1) }", TYPES),
     (
         "void main(int x) _(requires x == y) { int y; }",
         "source 2:34: rule 1",
     ),
     (
         "void main(int x _(ghost int y)) _(requires x == y) { }",
-        "source: not built",
+        TYPES,
     ),
     (
         "void main(struct A *p) { _(assert (\\exists struct A *q; q \\in p->\\owns && q->v == 1) && q == p) }",
@@ -85,7 +76,7 @@ const NAMES: &[(&str, &str)] = &[
     ),
     (
         "void main(struct A *p) { _(assert \\exists struct A *q; q \\in p->\\owns && q->v == 1) }",
-        "source: not built",
+        TYPES,
     ),
     ("void main() { y = 1; }", "source 2:15: rule 1"),
     ("void main(int x) { int x; }", "source 2:24: rule 2"),
@@ -96,10 +87,7 @@ const NAMES: &[(&str, &str)] = &[
         "void main() { int x; _(ghost int x) }",
         "source 2:34: rule 2",
     ),
-    (
-        "void main(int x) { } void other(int x) { int y; }",
-        "source: not built",
-    ),
+    ("void main(int x) { } void other(int x) { int y; }", TYPES),
     ("void main() { } void nothing() { }", "source 2:22: rule 2"),
     (
         "void main() { } struct D { int q; };",
@@ -115,11 +103,11 @@ const NAMES: &[(&str, &str)] = &[
     ),
     (
         "struct E { int v; }; struct F { int v; }; void main() { int v; int E; }",
-        "source: not built",
+        TYPES,
     ),
     (
         "void main(struct A *p, struct A *q) { _(assert \\forall struct A *q; q \\in p->\\owns ==> q != NULL) }",
-        "source: not built",
+        TYPES,
     ),
 ];
 
@@ -143,11 +131,11 @@ const VALUES: &[(&str, &str)] = &[
     ),
     (
         "void main(struct A *p, struct C *q) { if (p == q) ; }",
-        "source: not built",
+        TYPES,
     ),
     (
         "void main(struct A *p) { if (p != NULL && !p || p) ; }",
-        "source: not built",
+        TYPES,
     ),
     (
         "void main(struct A *p, int x) { x = -p; }",
@@ -157,10 +145,7 @@ const VALUES: &[(&str, &str)] = &[
         "void main(struct A *p, int x) { x = 1 ? p : 2; }",
         "source 2:39: rule 3",
     ),
-    (
-        "void main(struct A *p, int x) { x = p ? 1 : 2; }",
-        "source: not built",
-    ),
+    ("void main(struct A *p, int x) { x = p ? 1 : 2; }", TYPES),
     ("void main(struct A *p) { p++; }", "source 2:27: rule 3"),
     (
         "void main(struct A *p, int x) { x += p; }",
@@ -168,7 +153,7 @@ const VALUES: &[(&str, &str)] = &[
     ),
     (
         "void main(int x) { x++; x -= 1; x = -x % 2 * 3 / 4; }",
-        "source: not built",
+        TYPES,
     ),
     (
         "void main(struct A *p) { _(assert 1 \\in p->\\owns) }",
@@ -176,11 +161,11 @@ const VALUES: &[(&str, &str)] = &[
     ),
     (
         "void main(struct A *p) { _(assert NULL \\in p->\\owns) }",
-        "source: not built",
+        TYPES,
     ),
     (
         "void main(struct A *p) { _(assert p ==> 1 <==> p == NULL) }",
-        "source: not built",
+        TYPES,
     ),
     (
         "void main(struct A *p) { int x = p; }",
@@ -191,19 +176,16 @@ const VALUES: &[(&str, &str)] = &[
         "source 2:43: rule 4",
     ),
     ("void main(struct A *p) { p = 0; }", "source 2:30: rule 4"),
-    (
-        "void main(struct A *p) { p = NULL; p = p->n; }",
-        "source: not built",
-    ),
+    ("void main(struct A *p) { p = NULL; p = p->n; }", TYPES),
     ("void main(int x) { x = nothing(); }", "source 2:24: rule 4"),
-    ("void main(int x) { x = one(x); }", "source: not built"),
+    ("void main(int x) { x = one(x); }", TYPES),
     (
         "void main(struct A *p) { int x = one(p); }",
         "source 2:38: rule 4",
     ),
     (
         "void main(unsigned x, long long y) { x = y; y = one(x); }",
-        "source: not built",
+        TYPES,
     ),
     (
         "void main(struct A *p) { p = malloc(sizeof(struct C)); }",
@@ -211,13 +193,13 @@ const VALUES: &[(&str, &str)] = &[
     ),
     (
         "void main(struct A *p) { p = malloc(sizeof(struct A)); free(p); }",
-        "source: not built",
+        TYPES,
     ),
     ("void main() { free(1); }", "source 2:20: rule 4"),
     ("void main() _(writes 1) { }", "source 2:22: rule 4"),
     (
         "void main(struct A *p) _(writes p, \\span(p), \\extent(p->n)) { }",
-        "source: not built",
+        TYPES,
     ),
     (
         "void main(_(ghost \\object o)) { _(ghost \\claim c = o) }",
@@ -225,10 +207,10 @@ const VALUES: &[(&str, &str)] = &[
     ),
     (
         "void main(_(ghost \\claim c)) { _(ghost \\object o = c) }",
-        "source: not built",
+        TYPES,
     ),
     ("struct A *main() { return 1; }", "source 2:27: rule 4"),
-    ("struct A *main() { return NULL; }", "source: not built"),
+    ("struct A *main() { return NULL; }", TYPES),
     (
         "void main(struct A *p) _(requires \\wrapped(p->v)) { }",
         "source 2:44: rule 4",
@@ -239,7 +221,7 @@ const VALUES: &[(&str, &str)] = &[
     ),
     (
         "void main(struct A *p) { two(1, p _(ghost p)); two(1, NULL _(ghost NULL)); }",
-        "source: not built",
+        TYPES,
     ),
 ];
 
@@ -261,7 +243,7 @@ const CALLS: &[(&str, &str)] = &[
     ),
     (
         "void main(struct A *p) { vcc_spawn(two, 1, p _(ghost p)); vcc_spawn(nothing); }",
-        "source: not built",
+        TYPES,
     ),
     ("void main(int x) { x->v = 1; }", "source 2:21: rule 6"),
     (
@@ -270,7 +252,7 @@ const CALLS: &[(&str, &str)] = &[
     ),
     (
         "void main(struct A *p) { p->n->n->v = 1; (p)->v = 2; }",
-        "source: not built",
+        TYPES,
     ),
     ("void main() { int x = NULL->v; }", "source 2:27: rule 6"),
     (
@@ -279,7 +261,7 @@ const CALLS: &[(&str, &str)] = &[
     ),
     (
         "void main(struct A *p) { _(assert p->\\owner == \\me && p->\\closed && p->\\claim_count == 0) }",
-        "source: not built",
+        TYPES,
     ),
     (
         "void main(struct V *p) { _(assert NULL \\in p->held->\\owns) }",
@@ -287,7 +269,7 @@ const CALLS: &[(&str, &str)] = &[
     ),
     (
         "void main(struct V *p) { _(assert NULL \\in p->\\owns && p->held != p) }",
-        "source: not built",
+        TYPES,
     ),
 ];
 
@@ -311,11 +293,11 @@ const GHOSTS: &[(&str, &str)] = &[
     ),
     (
         "void main(struct A *p) { _(ghost p->g = p->v) _(assert p->g == p->v) }",
-        "source: not built",
+        TYPES,
     ),
     (
         "void main(_(ghost struct A *p)) { _(wrap p) _(unwrapping p) { } }",
-        "source: not built",
+        TYPES,
     ),
     (
         "void main(_(ghost int z)) { if (z) ; }",
@@ -323,7 +305,7 @@ const GHOSTS: &[(&str, &str)] = &[
     ),
     (
         "void main(_(ghost int z)) { while (1) _(invariant z == 1) ; }",
-        "source: not built",
+        TYPES,
     ),
     (
         "void main(struct V *p) { free(p->held); }",
@@ -344,7 +326,7 @@ const GHOSTS: &[(&str, &str)] = &[
     ),
     (
         "void main(struct A *p) { _(ghost int z = p->v) _(ghost if (z) p->n->g = z) }",
-        "source: not built",
+        TYPES,
     ),
 ];
 
@@ -392,7 +374,7 @@ const ATOMIC: &[(&str, &str)] = &[
     ),
     (
         "void main(struct C *p, int x) { _(atomic p) { { x = 1; ; } _(ghost if (x) { }) } int y; nothing(); }",
-        "source: not built",
+        TYPES,
     ),
     (
         "void main(struct C *p) { _(atomic p) { p->k = p->m; } }",
@@ -416,15 +398,15 @@ const ATOMIC: &[(&str, &str)] = &[
     ),
     (
         "void main(struct C *p, int x) { _(atomic p) { p->k = p->w + x; } _(atomic p) { p->m = x; } }",
-        "source: not built",
+        TYPES,
     ),
     (
         "void main(struct C *p, int x) { _(atomic p) { x = InterlockedIncrement(&p->k); } p->k = p->m; }",
-        "source: not built",
+        TYPES,
     ),
     (
         "void main(struct C *p _(ghost int z)) { _(atomic p) { p->k = 1; _(ghost z = p->k + p->m) } }",
-        "source: not built",
+        TYPES,
     ),
     (
         "void main(struct C *p, int x) { x = InterlockedIncrement(&p->k); }",
@@ -452,7 +434,7 @@ const ATOMIC: &[(&str, &str)] = &[
     ),
     (
         "void main(struct C *p, int x) { _(atomic p) { x = InterlockedCompareExchange(&p->k, 1, 0) == 0; } }",
-        "source: not built",
+        TYPES,
     ),
 ];
 
@@ -468,7 +450,7 @@ const OWNERSHIP: &[(&str, &str)] = &[
     ),
     (
         "void main(struct D *p, struct V *q) { _(ghost p->\\owns = {q}) _(ghost q->\\owns -= p) }",
-        "source: not built",
+        TYPES,
     ),
     (
         "void main(struct D *p) { _(atomic p) { _(ghost p->\\owns += p) } }",
@@ -480,7 +462,7 @@ const OWNERSHIP: &[(&str, &str)] = &[
     ),
     (
         "void main(struct V *p) { _(atomic p) { _(ghost p->\\owns += {p, NULL}) } }",
-        "source: not built",
+        TYPES,
     ),
     ("void main() { _(wrap NULL) }", "source 2:22: rule 13"),
     ("void main(int x) { _(unwrap x) }", "source 2:29: rule 13"),
@@ -494,7 +476,7 @@ const OWNERSHIP: &[(&str, &str)] = &[
     ),
     (
         "void main(struct A *p) { _(wrap p) _(unwrap p->n) _(unwrapping (p)) { p->v = 1; } }",
-        "source: not built",
+        TYPES,
     ),
     (
         "void main(struct A *p _(ghost \\claim c)) { _(ghost c = \\make_claim({p}, \\true)) }",
@@ -506,7 +488,7 @@ const OWNERSHIP: &[(&str, &str)] = &[
     ),
     (
         "void main(struct C *p, struct V *q _(ghost \\object o)) { _(ghost \\claim c = \\make_claim({p, q, o, NULL}, \\true)) }",
-        "source: not built",
+        TYPES,
     ),
     (
         "void main(struct D *p) { _(ghost { \\claim c; if (1) c = \\make_claim({p}, 1 == 1); }) }",
@@ -538,7 +520,7 @@ const INVARIANTS: &[(&str, &str)] = &[
     ),
     (
         "struct E { struct A *n; int v; _(invariant n->\\claim_count == 0 && \\old(v) <= v && \\mine(n)) }; void main() { }",
-        "source: not built",
+        TYPES,
     ),
     (
         "void main(struct A *p) { _(assert \\forall \\object o; o == p) }",
@@ -558,7 +540,7 @@ const INVARIANTS: &[(&str, &str)] = &[
     ),
     (
         "void main(struct A *p) { _(assert \\forall struct A *q; q \\in p->\\owns ==> q->v == 1) }",
-        "source: not built",
+        TYPES,
     ),
     (
         "struct E { struct A *n; _(invariant n \\in n->\\owns) }; void main() { }",
@@ -566,11 +548,11 @@ const INVARIANTS: &[(&str, &str)] = &[
     ),
     (
         "struct E { struct A *n; _(invariant n \\in \\this->\\owns) }; void main() { }",
-        "source: not built",
+        TYPES,
     ),
     (
         "struct E { struct A *n; _(invariant \\forall struct A *q; q \\in \\this->\\owns ==> q->n != n) }; void main() { }",
-        "source: not built",
+        TYPES,
     ),
 ];
 
@@ -598,11 +580,11 @@ const WORDS: &[(&str, &str)] = &[
     ),
     (
         "void main(int x, struct A *p) _(ensures \\old(x) == x && \\unchanged(p->v) && \\fresh(p)) { }",
-        "source: not built",
+        TYPES,
     ),
     (
         "void main(int x) { _(assert \\old(\\unchanged(x)) && \\unchanged(\\old(x))) }",
-        "source: not built",
+        TYPES,
     ),
     (
         "void main() _(ensures \\result == 1) { }",
@@ -618,7 +600,7 @@ const WORDS: &[(&str, &str)] = &[
     ),
     (
         "int f() _(ensures \\result == 1) { return 1; } void main() { }",
-        "source: not built",
+        TYPES,
     ),
     (
         "void main() { _(assert \\this == NULL) }",
@@ -634,7 +616,7 @@ const WORDS: &[(&str, &str)] = &[
     ),
     (
         "struct E { struct E *n; _(invariant \\this != n && \\mine(n, \\this)) }; void main() { }",
-        "source: not built",
+        TYPES,
     ),
     (
         "void main(struct C *p _(ghost \\claim c)) { _(ghost c = \\make_claim({p}, p->\\owner == p)) }",
@@ -662,11 +644,11 @@ const WORDS: &[(&str, &str)] = &[
     ),
     (
         "void main(struct C *p _(ghost \\claim c)) { _(ghost c = \\make_claim({p}, p->\\closed && p->w == 1)) }",
-        "source: not built",
+        TYPES,
     ),
     (
         "void main(struct C *p, struct C *q _(ghost \\claim c)) { _(assert \\claims(c, q->\\closed && p->w == 0)) }",
-        "source: not built",
+        TYPES,
     ),
 ];
 
@@ -688,21 +670,18 @@ const FUNCTIONS: &[(&str, &str)] = &[
     ),
     (
         "int f() { if (1) return 2; return 1; } void main() { return; }",
-        "source: not built",
+        TYPES,
     ),
     (
         "void main(struct A *p) { _(unwrapping p) { } return; }",
-        "source: not built",
+        TYPES,
     ),
     ("void main() { vcc_spawn(one, 1); }", "source 2:25: rule 22"),
     (
         "void main() { vcc_spawn(f); } struct A *f() { return NULL; }",
         "source 2:25: rule 22",
     ),
-    (
-        "void main() { vcc_spawn(f, 1); } void f(int x) { }",
-        "source: not built",
-    ),
+    ("void main() { vcc_spawn(f, 1); } void f(int x) { }", TYPES),
     ("struct E { }; void main() { }", "source 2:8: rule 23"),
     (
         "struct E { _(invariant 1 == 1) }; void main() { }",
@@ -714,12 +693,12 @@ const FUNCTIONS: &[(&str, &str)] = &[
     ),
     (
         "_(dynamic_owns, claimable) struct E { int v; }; _(volatile_owns) struct F { _(ghost int v) }; void main() { }",
-        "source: not built",
+        TYPES,
     ),
     ("", "source 2:1: rule 24"),
     ("void mains() { }", "source 2:17: rule 24"),
     ("struct main { int main; };\n\n ", "source 4:2: rule 24"),
-    ("void main() { }", "source: not built"),
+    ("void main() { }", TYPES),
 ];
 
 /// Two rules at one place, of which the smaller number is told, and at two places in both orders.
@@ -855,8 +834,8 @@ fn many_names(alloc: Global, count: u32) -> Result<String, AllocError> {
 /// How many of each there are in a source that comes near to the limits of bytes and tokens.
 const MANY: u32 = 4_600;
 
-/// A source of so many names, with this end, has this line, and status 3.
-fn many_give(rt: &impl Abort, alloc: Global, end: &str, line: &str) {
+/// A source of so many names, with this end, has this line, and this status.
+fn many_give(rt: &impl Abort, alloc: Global, end: &str, line: &str, status: u8) {
     let mut source = many_names(alloc, MANY).expect(rt, "memory for a source");
     source.push_str(end).expect(rt, "memory for its end");
     is(
@@ -864,17 +843,19 @@ fn many_give(rt: &impl Abort, alloc: Global, end: &str, line: &str) {
         &(source.len() > 1_000_000, source.len() <= 1_048_576),
         &(true, true),
     );
-    gives(rt, alloc, source.as_str(), line, 3);
+    gives(rt, alloc, source.as_str(), line, status);
 }
 
-/// A source of more than 30,000 names types in good time; and one with a name more that isn't declared is refused there.
+/// A source of more than 30,000 names types in good time, and has more conditions than there may be; and one with a name more
+/// that isn't declared is refused there.
 #[test]
 fn many_names_type(rt: HostRuntime) {
-    many_give(&rt, rt.alloc(), "}\n", "source: not built\n");
+    many_give(&rt, rt.alloc(), "}\n", "limit: Conditions 20000\n", 5);
     many_give(
         &rt,
         rt.alloc(),
         "value1 = w;\n}\n",
         "source 13802:10: rule 1\n",
+        3,
     );
 }

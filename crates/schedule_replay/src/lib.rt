@@ -2,7 +2,7 @@
 #![tactic(auto)]
 
 pub mod fault;
-mod lines;
-mod put;
+pub mod lines;
+pub mod put;
 mod records;
 pub mod replay;

@@ -6,8 +6,6 @@ mod bank;
 #[cfg(test)]
 mod certificates;
 #[cfg(test)]
-mod conditions;
-#[cfg(test)]
 mod literals;
 #[cfg(test)]
 mod pool;

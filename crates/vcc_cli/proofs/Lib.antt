@@ -1,6 +1,10 @@
-pub mod Judging
-pub mod Reading
-pub mod Runs
-pub mod Programs
 pub mod Words
+pub mod Counting
+pub mod Programs
+pub mod Certificates
+pub mod Checking
+pub mod Verdicts
+pub mod Accepting
+pub mod Runs
 pub mod Replaying
+pub mod Printed

@@ -1,38 +1,80 @@
--- When a source and a certificate are accepted.
-use Rattle.std.specs.Prelude.{ℕ, List, [], ◌∷◌}
-use Rattle.first_terms.specs.declared.term.Term.{Term}
-use Rattle.first_terms.specs.Formula.{Numbered}
-use Rattle.first_form.specs.Tree.{Prog}
-use Rattle.first_program.specs.Reads.{Reads}
-use Rattle.first_cert.specs.declared.certificate.Step.{Step}
-use Rattle.first_cert.specs.Text.{IsCertText}
-use Rattle.first_checker.specs.Follows.{Follows}
-use Rattle.first_conditions.specs.Law.{IsValid}
-use Rattle.first_conditions.specs.Conditions.{Check, condition, checks_of_program}
+-- When a source and a certificate are accepted, and what that means. From proof-carrying code (Necula 1997): who receives a program with a certificate checks the one by the other.
+use Rattle.std.specs.Prelude.{◌≡◌, ℕ, ◌≤◌, List, length, Some}
+use Rattle.c_syntax.specs.declared.token.Span.{Span}
+use Rattle.c_syntax.specs.Items.{Item}
+use Rattle.typing_spec.specs.First.{IsWellTyped}
+use Rattle.c_source.specs.Sources.{IsText, IsWithinLimits}
+use Rattle.c_types.specs.Typed.{IsProgramOf}
+use Rattle.method.specs.declared.program.Program.{Program}
+use Rattle.method.specs.Machine.{Safe}
+use Rattle.conditions.specs.Conditions.{conditions}
+use Rattle.cert_format.specs.Text.{IsCertText, Proofs}
+use Rattle.vcc_judge.specs.Verdicts.{IsVerified}
+use Rattle.vcc_base.specs.Maps.{Map}
+use Rattle.vcc_base.specs.Limits.{number_of}
+use Rattle.vcc_base.specs.declared.limit.Limit.TheVariants.{SourceBytes, CertBytes, Conditions}
+use Rattle.vcc_cli.specs.Command.{IsCheck}
 
--- the condition of the check, with its terms numbered from 0, follows by the steps
-pub record FollowsBy (c : Check) (steps : List Step) : Type 0 where
-  pub terms : List Term
-  pub root : ℕ
-  pub numbered : Numbered (condition c) [] terms root
-  pub follows : Follows terms root steps
-
--- one block for each check, in order, and each condition follows by its block
-abbrev pub AllFollow : List Check → List (List Step) → Type 0
-AllFollow [] [] = Unit {0}
-AllFollow [] (b ∷ bs) = ⊥
-AllFollow (c ∷ cs) [] = ⊥
-AllFollow (c ∷ cs) (b ∷ bs) = FollowsBy c b × AllFollow cs bs
-
--- The source reads as a program, the certificate is well formed, and its blocks refute the negations of the program's conditions.
+-- The source reads as a program, the certificate is well formed, and each condition of the program follows by its block.
 pub record Accepts (source cert : List ℕ) : Type 0 where
-  pub program : Prog
-  pub blocks : List (List Step)
-  pub reads : Reads source program
-  pub text : IsCertText cert blocks
-  pub follow : AllFollow (checks_of_program program) blocks
+  pub program : Program
+  pub proofs : Proofs
+  pub reads : IsProgramOf source program
+  pub text : IsCertText cert proofs
+  pub verified : IsVerified program proofs.blocks
 
--- the conditions are valid
-abbrev pub AllValid : List Check → Type 0
-AllValid [] = Unit {0}
-AllValid (c ∷ cs) = IsValid (condition c) × AllValid cs
+-- The source reads as a program, the certificate is well formed, both are within the limits, and each condition follows by its block: of every program that the source reads as, since two may differ in the room that their vectors hold.
+pub record IsAcceptable (source cert : List ℕ) : Type 0 where
+  pub items : List Item
+  pub end : Span
+  pub text : IsText source items end
+  pub within : IsWithinLimits text
+  pub typed : IsWellTyped items end
+  pub source_short : length source ≤ number_of SourceBytes
+  pub proofs : Proofs
+  pub cert_text : IsCertText cert proofs
+  pub cert_short : length cert ≤ number_of CertBytes
+  pub few : (p : Program) → IsProgramOf source p → length (conditions p) ≤ number_of Conditions
+  pub verified : (p : Program) → IsProgramOf source p → IsVerified p proofs.blocks
+
+-- the words are a check, whose two names hold these bytes
+pub record IsCheckOf (m : Map) (words : List (List ℕ)) (source cert : List ℕ) : Type 0 where
+  pub source_name : List ℕ
+  pub cert_name : List ℕ
+  pub command : IsCheck words source_name cert_name
+  pub source_held : m source_name ≡ Some source
+  pub cert_held : m cert_name ≡ Some cert
+
+-- the bytes read as a program that is safe: in every interleaving, from every good heap that meets main's precondition, no step faults, no claimed object is opened, and each step keeps the invariants
+pub record IsSafeSource (source : List ℕ) : Type 0 where
+  pub program : Program
+  pub reads : IsProgramOf source program
+  pub safe : Safe program
+
+-- the name holds a source that is safe
+pub record HoldsSafe (m : Map) (name : List ℕ) : Type 0 where
+  pub source : List ℕ
+  pub held : m name ≡ Some source
+  pub is_safe : IsSafeSource source
+
+-- the two names hold a source and a certificate that are accepted
+pub record HoldAccepted (m : Map) (source_name cert_name : List ℕ) : Type 0 where
+  pub source : List ℕ
+  pub cert : List ℕ
+  pub source_held : m source_name ≡ Some source
+  pub cert_held : m cert_name ≡ Some cert
+  pub accepts : Accepts source cert
+
+-- The words are a check, of a source that is safe.
+pub record SourceIsSafe (m : Map) (words : List (List ℕ)) : Type 0 where
+  pub source : List ℕ
+  pub cert : List ℕ
+  pub check : IsCheckOf m words source cert
+  pub is_safe : IsSafeSource source
+
+-- The words are a check, of a source and a certificate that are accepted.
+pub record IsAccepted (m : Map) (words : List (List ℕ)) : Type 0 where
+  pub source : List ℕ
+  pub cert : List ℕ
+  pub check : IsCheckOf m words source cert
+  pub accepts : Accepts source cert

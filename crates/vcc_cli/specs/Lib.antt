@@ -1,9 +1,11 @@
 pub mod Command
-pub mod Accepts
 pub mod Source
-pub mod Answer
-pub mod Verdicts
+pub mod Held
+pub mod Names
+pub mod Accepts
+pub mod Checks
 pub mod Faults
 pub mod Lines
 pub mod Run
 pub mod Replays
+pub mod Ends

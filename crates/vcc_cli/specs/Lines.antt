@@ -6,10 +6,13 @@ use Rattle.typing_spec.specs.Rules.{number}
 use Rattle.typing_expressions.specs.Views.{rule}
 use Rattle.vcc_base.specs.Maps.{NowWritten, FrontWritten}
 use Rattle.vcc_base.specs.Limits.{number_of, name_of}
-use Rattle.vcc_cli.specs.declared.judge.Verdict.{Verdict}
-use Rattle.vcc_cli.specs.declared.judge.Verdict.TheVariants.{Yes, No}
+use Rattle.schedule_replay.specs.ReplayText.{kind_text}
+use Rattle.vcc_cli.specs.declared.verdict.Failing.{Failing}
+use Rattle.vcc_cli.specs.declared.verdict.Verdict.{Verdict}
+use Rattle.vcc_cli.specs.declared.verdict.Verdict.TheVariants.{Yes, No}
+use Rattle.vcc_cli.specs.declared.refusal.BlockCount.{BlockCount}
 use Rattle.vcc_cli.specs.declared.refusal.Refusal.{Refusal}
-use Rattle.vcc_cli.specs.declared.refusal.Refusal.TheVariants.{Usage, BadByte, BadNumber, OpenComment, Unexpected, UnknownForm, BreaksRule, NotBuilt, Refused, BadSchedule, BadArgs, Wide, Exhausted, Limit, Missing, ReadFault, OutOfMemory}
+use Rattle.vcc_cli.specs.declared.refusal.Refusal.TheVariants.{Usage, BadByte, BadNumber, OpenComment, Unexpected, UnknownForm, BreaksRule, BadCertificate, Count, BadSchedule, BadArgs, Wide, Exhausted, Limit, Missing, ReadFault, OutOfMemory}
 use Rattle.vcc_cli.specs.declared.refusal.LineFault.{LineFault}
 use Rattle.vcc_cli.specs.declared.refusal.LineFault.TheVariants as line_fault
 
@@ -17,15 +20,12 @@ use Rattle.vcc_cli.specs.declared.refusal.LineFault.TheVariants as line_fault
 abbrev pub line : List ℕ → List ℕ
 line text = text ++ 10 ∷ []
 
--- a place: its line and its column
-abbrev pub place_text : Span → List ℕ
-place_text place = decimal place.line ++ (codes ":" ++ decimal place.column)
-
--- a fault of a source: its place, what it is a fault of, and its number; or a typing rule that is broken there, by its number
+-- a fault of a source: its line and its column, what it is a fault of, and its number; or a typing rule that is broken there, by its number
 abbrev pub source_line : Span → List ℕ → ℕ → List ℕ
-source_line place stage n = codes "source " ++ (place_text place ++ (codes ": " ++ (stage ++ (codes " " ++ line (decimal n)))))
+source_line place stage n =
+    codes "source " ++ (decimal place.line ++ (codes ":" ++ (decimal place.column ++ (codes ": " ++ (stage ++ (codes " " ++ line (decimal n)))))))
 
--- the name of what is wrong with a line of a schedule
+-- the name of what is wrong with a line of a certificate or of a schedule
 abbrev pub fault_name : LineFault → List ℕ
 fault_name line_fault.BadLine = codes "BadLine"
 fault_name line_fault.BadNumber = codes "BadNumber"
@@ -37,6 +37,18 @@ fault_name line_fault.CountOver = codes "CountOver"
 abbrev pub schedule_line : ℕ → LineFault → List ℕ
 schedule_line n fault = codes "schedule line " ++ (decimal n ++ (codes ": " ++ line (fault_name fault)))
 
+-- a fault of a certificate
+abbrev pub cert_line : ℕ → LineFault → List ℕ
+cert_line n fault = codes "certificate line " ++ (decimal n ++ (codes ": " ++ line (fault_name fault)))
+
+-- a certificate with another number of blocks than the source has conditions
+abbrev pub count_line : BlockCount → List ℕ
+count_line c = codes "certificate: conditions " ++ (decimal c.blocks ++ (codes ", source has " ++ line (decimal c.conditions)))
+
+-- the first check whose condition doesn't follow: its item's name, its ordinal there, its kind and its line
+abbrev pub no_line : Failing → List ℕ
+no_line f = codes "no: " ++ (f.name.now ++ (codes "/" ++ (decimal f.label.ordinal ++ (codes " " ++ (kind_text f.label.kind ++ (codes " line " ++ line (decimal f.label.line)))))))
+
 -- a value that would leave 128 bits: the operands of its operation
 abbrev pub wide_line : ℤ → ℤ → List ℕ
 wide_line left right = codes "limit: Wide " ++ (signed_decimal left ++ (codes " " ++ line (signed_decimal right)))
@@ -44,7 +56,7 @@ wide_line left right = codes "limit: Wide " ++ (signed_decimal left ++ (codes " 
 -- the line of an answer
 abbrev pub line_of : Result Verdict Refusal → List ℕ
 line_of (Ok Yes) = line (codes "yes")
-line_of (Ok (No label)) = codes "no: main/" ++ (decimal label.ordinal ++ (codes " Assert line " ++ line (decimal label.line)))
+line_of (Ok (No failing)) = no_line failing
 line_of (Err Usage) = line (codes "usage: vcc check SOURCE CERT, run SOURCE SCHEDULE")
 line_of (Err (BadByte place)) = source_line place (codes "token") 1
 line_of (Err (BadNumber place)) = source_line place (codes "token") 2
@@ -52,8 +64,8 @@ line_of (Err (OpenComment place)) = source_line place (codes "token") 3
 line_of (Err (Unexpected place)) = source_line place (codes "syntax") 1
 line_of (Err (UnknownForm place)) = source_line place (codes "syntax") 2
 line_of (Err (BreaksRule broken)) = source_line broken.span (codes "rule") (number (rule broken.rule))
-line_of (Err NotBuilt) = line (codes "source: not built")
-line_of (Err Refused) = line (codes "certificate: refused")
+line_of (Err (BadCertificate n fault)) = cert_line n fault
+line_of (Err (Count c)) = count_line c
 line_of (Err (BadSchedule n fault)) = schedule_line n fault
 line_of (Err BadArgs) = line (codes "schedule: BadArgs")
 line_of (Err (Wide w)) = wide_line w.a w.b
@@ -66,7 +78,7 @@ line_of (Err OutOfMemory) = line (codes "out of memory")
 -- the status of an answer
 abbrev pub status_of : Result Verdict Refusal → ℕ
 status_of (Ok Yes) = 0
-status_of (Ok (No label)) = 1
+status_of (Ok (No failing)) = 1
 status_of (Err Usage) = 2
 status_of (Err (BadByte place)) = 3
 status_of (Err (BadNumber place)) = 3
@@ -74,8 +86,8 @@ status_of (Err (OpenComment place)) = 3
 status_of (Err (Unexpected place)) = 3
 status_of (Err (UnknownForm place)) = 3
 status_of (Err (BreaksRule broken)) = 3
-status_of (Err NotBuilt) = 3
-status_of (Err Refused) = 4
+status_of (Err (BadCertificate n fault)) = 4
+status_of (Err (Count c)) = 4
 status_of (Err (BadSchedule n fault)) = 3
 status_of (Err BadArgs) = 3
 status_of (Err (Wide w)) = 5

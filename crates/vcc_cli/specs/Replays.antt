@@ -1,9 +1,8 @@
 -- What a run of a source along a schedule prints, and its status.
 use Rattle.std.specs.Prelude.{◌≡◌, ◌⊎◌, ℕ, ◌<◌, List, [], ◌++◌, codes, Option, Err}
 use Rattle.vcc_base.specs.Maps.{Map, NowWritten, FrontWritten}
-use Rattle.vcc_base.specs.declared.limit.Limit.TheVariants.{SourceBytes, ScheduleBytes}
+use Rattle.vcc_base.specs.declared.limit.Limit.TheVariants.{ScheduleBytes}
 use Rattle.method.specs.declared.program.Program.{Program}
-use Rattle.c_types.specs.Typed as typed
 use Rattle.schedule_format.specs.Schedules.{Schedule}
 use Rattle.schedule_format.specs.Text.{IsScheduleText}
 use Rattle.schedule_format.specs.Reading.{schedule_of}
@@ -17,12 +16,11 @@ use Rattle.vcc_cli.specs.declared.refusal.LineFault.{LineFault}
 use Rattle.vcc_cli.specs.declared.refusal.LineFault.TheVariants.{BadLine, BadNumber, CutShort, Trailing, CountOver}
 use Rattle.vcc_cli.specs.declared.refusal.Refusal.{Refusal}
 use Rattle.vcc_cli.specs.declared.refusal.Refusal.TheVariants.{BadSchedule, BadArgs, Wide, Exhausted, OutOfMemory}
-use Rattle.vcc_cli.specs.Answer.{HoldsWithin, IsUnread}
+use Rattle.vcc_cli.specs.Held.{HoldsProgram, HoldsWithin, IsSourceStop, IsUnread}
 use Rattle.vcc_cli.specs.Command.{IsRunCommand}
 use Rattle.vcc_cli.specs.Faults.{IsReadFault}
 use Rattle.vcc_cli.specs.Lines.{Written, IsReported, line, wide_line}
-use Rattle.vcc_cli.specs.Run.{IsRun, ReadCounts}
-use Rattle.vcc_cli.specs.Source.{IsUntyped}
+use Rattle.vcc_cli.specs.Run.{ReadCounts}
 
 -- ---- before the replay
 
@@ -40,21 +38,11 @@ IsNoSchedule bytes (BadSchedule n fault) = schedule_of bytes ≡ Err (schedule_f
 IsNoSchedule bytes OutOfMemory = Unit {0}
 IsNoSchedule bytes _ = ⊥
 
--- the name holds the text of this program
-pub record HoldsProgram (m : Map) (name : List ℕ) (p : Program) : Type 0 where
-  pub source : List ℕ
-  pub held : HoldsWithin m name SourceBytes source
-  pub program : typed.IsProgramOf source p
-
 -- the name holds the text of this schedule
 pub record HoldsSchedule (m : Map) (name : List ℕ) (schedule : Schedule) : Type 0 where
   pub bytes : List ℕ
   pub held : HoldsWithin m name ScheduleBytes bytes
   pub text : IsScheduleText bytes schedule
-
--- the source's read refuses, or its bytes do
-abbrev pub IsSourceStop : Map → List ℕ → Refusal → Type 0
-IsSourceStop m name refusal = IsUnread m name SourceBytes refusal ⊎ ((source : List ℕ) × HoldsWithin m name SourceBytes source × IsUntyped source refusal)
 
 -- the schedule's read refuses, or its bytes do
 abbrev pub IsScheduleStop : Map → List ℕ → Refusal → Type 0
@@ -143,7 +131,3 @@ pub record IsRunOf (m : Map) (words : List (List ℕ)) (reads : ReadCounts) (w :
   pub schedule_name : List ℕ
   pub command : IsRunCommand words source_name schedule_name
   pub answered : IsRunOfNames m source_name schedule_name reads w status
-
--- What the words come to: a check or no command with its answer, or a run.
-abbrev pub EndsWith : Map → List (List ℕ) → ReadCounts → Written → ℕ → Type 0
-EndsWith m words reads w status = IsRun m words reads w status ⊎ IsRunOf m words reads w status

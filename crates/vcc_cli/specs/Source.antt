@@ -2,16 +2,14 @@
 use Rattle.std.specs.Prelude.{ℕ, List}
 use Rattle.c_syntax.specs.declared.token.Span.{Span}
 use Rattle.c_syntax.specs.Items.{Item}
-use Rattle.typing_spec.specs.First.{IsFirstBroken, IsWellTyped}
+use Rattle.typing_spec.specs.First.{IsFirstBroken}
 use Rattle.typing_expressions.specs.declared.violations.Violation.{Violation}
 use Rattle.typing_expressions.specs.Views.{rule}
 use Rattle.c_source.specs.declared.fault.SourceFault.TheVariants as f
 use Rattle.c_source.specs.Sources.{IsText, IsWithinLimits, IsFault}
-use Rattle.first_form.specs.Tree.{Prog}
-use Rattle.first_program.specs.Reads.{IsFirstForm}
 use Rattle.vcc_base.specs.declared.limit.Limit.TheVariants.{Tokens, Depth}
 use Rattle.vcc_cli.specs.declared.refusal.Refusal.{Refusal}
-use Rattle.vcc_cli.specs.declared.refusal.Refusal.TheVariants.{BadByte, BadNumber, OpenComment, Unexpected, UnknownForm, BreaksRule, NotBuilt, Limit, OutOfMemory}
+use Rattle.vcc_cli.specs.declared.refusal.Refusal.TheVariants.{BadByte, BadNumber, OpenComment, Unexpected, UnknownForm, BreaksRule, Limit, OutOfMemory}
 
 -- the bytes are items of the language, within the limits, and this rule is the first that they break, at this place
 pub record BreaksFirst (source : List ℕ) (b : Violation) : Type 0 where
@@ -21,16 +19,7 @@ pub record BreaksFirst (source : List ℕ) (b : Violation) : Type 0 where
   pub within : IsWithinLimits text
   pub first : IsFirstBroken items end (rule b.rule) b.span
 
--- the bytes are items of the language, within the limits, that break no typing rule, and no program of the form that is judged so far
-pub record IsUnbuilt (source : List ℕ) : Type 0 where
-  pub items : List Item
-  pub end : Span
-  pub text : IsText source items end
-  pub within : IsWithinLimits text
-  pub typed : IsWellTyped items end
-  pub other : (p : Prog) → IsFirstForm source p → ⊥
-
--- The bytes have this first fault at this place; or the rule is the first that they break, there; or they are of no form that is judged so far.
+-- The bytes have this first fault at this place; or the rule is the first that they break, there.
 abbrev pub IsSourceRefusal : List ℕ → Refusal → Type 0
 IsSourceRefusal source (BadByte place) = IsFault source (f.BadByte place)
 IsSourceRefusal source (BadNumber place) = IsFault source (f.BadNumber place)
@@ -40,15 +29,9 @@ IsSourceRefusal source (Unexpected place) = IsFault source (f.Unexpected place)
 IsSourceRefusal source (UnknownForm place) = IsFault source (f.UnknownForm place)
 IsSourceRefusal source (Limit Depth) = (place : Span) × IsFault source (f.TooDeep place)
 IsSourceRefusal source (BreaksRule b) = BreaksFirst source b
-IsSourceRefusal source NotBuilt = IsUnbuilt source
 IsSourceRefusal source _ = ⊥
 
 -- the same, or memory is wanted
 abbrev pub IsSourceRefusalOrMemory : List ℕ → Refusal → Type 0
 IsSourceRefusalOrMemory source OutOfMemory = Unit {0}
 IsSourceRefusalOrMemory source refusal = IsSourceRefusal source refusal
-
--- the refusal of a source whose typed program is asked for, of whatever form it is; or memory is wanted
-abbrev pub IsUntyped : List ℕ → Refusal → Type 0
-IsUntyped source NotBuilt = ⊥
-IsUntyped source refusal = IsSourceRefusalOrMemory source refusal

@@ -1,97 +1,130 @@
 //! The command `check`.
 
-ghost use Rattle.std.specs.Prelude.{◌≡◌, ◌<◌, ◌≤◌, length, IfOk, Ok, Err, Some, Result, MatchResult};
+ghost use Rattle.std.specs.Prelude.{◌≡◌, ◌<◌, ◌≤◌, ℕ, length, IfOk, IfErr, MatchResult, Ok, Err, Some};
+ghost use Rattle.method.specs.Labels as spec;
+ghost use Rattle.term_meaning.specs.Meaning.{IsFaithful};
+ghost use Rattle.term_meaning.specs.Filling.{IsLayered};
+ghost use Rattle.condition_meaning.specs.Languages.{language_of};
+ghost use Rattle.condition_meaning.specs.Promises.{ConditionsAreValid};
+ghost use Rattle.check_labels.specs.Labels.{labels_of};
 ghost use Rattle.vcc_base.specs.Limits.{number_of};
 ghost use Rattle.vcc_base.specs.Maps.{Map};
-ghost use Rattle.first_form.specs.Tree.{program as read_as};
-ghost use Rattle.first_conditions.specs.Conditions.{checks_of_program};
-ghost use Rattle.vcc_cli.specs.Accepts.{AllValid};
-ghost use Rattle.vcc_cli.specs.Answer.{HoldsWithin, IsCertAnswer, IsCheckAnswer, IsSafeAnswer, IsUnread};
+ghost use Rattle.vcc_cli.specs.Accepts.{HoldsSafe};
+ghost use Rattle.vcc_cli.specs.Checks.{AreJudged, IsManyOrMemory, IsProgramAnswer};
 ghost use Rattle.vcc_cli.specs.Faults.{IsReadFault};
+ghost use Rattle.vcc_cli.specs.Lines.{wrote};
+ghost use Rattle.vcc_cli.specs.Run.{IsChecked, read_counts};
 
-use crate::judge::{Verdict, judge_blocks};
+use crate::certificate::read_certificate;
+use crate::names::item_name;
 use crate::program::read_program;
-use crate::refusal::Refusal;
-use first_cert::decode::{CertFault, decode};
-use first_conditions::law::conditions_mean_safe;
-use first_form::tree::Program;
+use crate::refusal::{BlockCount, Refusal};
+use crate::report::report;
+use crate::verdict::{Failing, Verdict};
+use cert_format::certificate::Refutation;
+use check_labels::labels::{ProgramLabel, program_labels};
+use method::program::Program;
 use std::alloc::Global;
+use typed_conditions::laws::{sources_are_annotated, sources_are_safe};
 use vcc_base::limit::Limit;
+use vcc_base::sink::Sink;
 use vcc_base::store::Store;
-use vcc_base::whole::{ReadFault, read_whole};
+use vcc_judge::judge::judge;
+use vcc_judge::verdict::{JudgeFault, Verdict as Judgment};
 
-/// All bytes of the name.
-pub fn read<'a, S: Store>(
+/// What the blocks show of the program, whose labels these are, one block for each.
+fn judge_blocks<'a, 'p>(
     alloc: Global,
-    store: &mut S,
-    name: &'a str,
-    limit: Limit,
-) -> Result<Vec<u8>, Refusal<'a>>
-    ensures bytes { (m : Map) → S.contents store.old ≡ Some m → MatchResult result (λ v. HoldsWithin m name.entry.now limit v.items) (IsUnread m name.entry.now limit) }
-    ensures within { IfOk result (λ v. length v.items ≤ number_of limit) }
-    ensures fault { IsReadFault result → S.read_faults store.old < S.read_faults store.new }
-    ensures never_falls { S.read_faults store.old ≤ S.read_faults store.new }
-    ensures kept { S.contents store.new ≡ S.contents store.old }
+    program: &'p Program,
+    labels: &[ProgramLabel],
+    blocks: &[Refutation],
+) -> Result<Verdict<'p>, Refusal<'a>>
+    requires labels { labels_of labels.now ≡ spec.program_labels program.now }
+    requires count { length labels.now ≡ length blocks.now }
+    ensures judged { AreJudged program.entry.now blocks.now result }
+    ensures valid { IsLayered (language_of program.entry.now) → IsFaithful (language_of program.entry.now) →
+        result ≡ Ok Verdict.Yes → ConditionsAreValid program.entry.now }
 {
-    match read_whole(alloc, store, name, limit) {
-        Ok(bytes) => Ok(bytes),
-        Err(ReadFault::Missing) => Err(Refusal::Missing(name)),
-        Err(ReadFault::Failed) => Err(Refusal::ReadFault(name)),
-        Err(ReadFault::TooLong) => Err(Refusal::Limit(limit)),
-        Err(ReadFault::OutOfMemory) => Err(Refusal::OutOfMemory),
+    match judge(alloc, program, labels, blocks) {
+        Ok(Judgment::Yes) => Ok(Verdict::Yes),
+        Ok(Judgment::No(label)) => {
+            let name = item_name(program, label.item);
+            Ok(Verdict::No(Failing { name, label }))
+        }
+        Err(JudgeFault::Terms) => Err(Refusal::Limit(Limit::Terms)),
+        Err(JudgeFault::Wide(wide)) => Err(Refusal::Wide(wide)),
+        Err(JudgeFault::OutOfMemory) => Err(Refusal::OutOfMemory),
     }
+}
+
+/// The labels of a program that has no more conditions than the limit allows.
+fn few_labels<'a>(alloc: Global, program: &Program) -> Result<Vec<ProgramLabel>, Refusal<'a>>
+    ensures labels { IfOk result (λ ls. labels_of ls.items ≡ spec.program_labels program.now) }
+    ensures few { IfOk result (λ ls. length ls.items ≤ number_of Limit.Conditions) }
+    ensures many { IfErr result (IsManyOrMemory program.now) }
+{
+    let Ok(labels) = program_labels(alloc, program) else {
+        return Err(Refusal::OutOfMemory);
+    };
+    if labels.len() as u64 > Limit::Conditions.number() {
+        return Err(Refusal::Limit(Limit::Conditions));
+    }
+    Ok(labels)
 }
 
 /// The verdict of the certificate with this name over a program.
-fn judge_name<'a, S: Store>(
+fn judge_name<'a, 'p, S: Store>(
     alloc: Global,
     store: &mut S,
-    program: &Program,
+    program: &'p Program,
     name: &'a str,
-) -> Result<Verdict, Refusal<'a>>
-    ensures answer { (m : Map) → S.contents store.old ≡ Some m → IsCertAnswer m name.entry.now (checks_of_program (read_as program.now)) result }
-    ensures valid { result ≡ Ok Verdict.Yes → AllValid (checks_of_program (read_as program.now)) }
+) -> Result<Verdict<'p>, Refusal<'a>>
+    ensures answer { (m : Map) → S.contents store.old ≡ Some m →
+        IsProgramAnswer m name.entry.now program.entry.now result }
+    ensures valid { IsLayered (language_of program.entry.now) → IsFaithful (language_of program.entry.now) →
+        result ≡ Ok Verdict.Yes → ConditionsAreValid program.entry.now }
     ensures fault { IsReadFault result → S.read_faults store.old < S.read_faults store.new }
     ensures never_falls { S.read_faults store.old ≤ S.read_faults store.new }
     ensures kept { S.contents store.new ≡ S.contents store.old }
 {
-    let bytes = match read(alloc, store, name, Limit::CertBytes) {
-        Ok(bytes) => bytes,
+    let labels = match few_labels(alloc, program) {
+        Ok(labels) => labels,
         Err(refusal) => return Err(refusal),
     };
-    match decode(alloc, &bytes) {
-        Ok(certificate) => {
-            let answer = judge_blocks(alloc, program, &certificate.blocks);
-            answer
-        }
-        Err(CertFault::Refused) => Err(Refusal::Refused),
-        Err(CertFault::OutOfMemory) => Err(Refusal::OutOfMemory),
+    let certificate = match read_certificate(alloc, store, name) {
+        Ok(certificate) => certificate,
+        Err(refusal) => return Err(refusal),
+    };
+    let blocks = certificate.blocks.len();
+    let conditions = labels.len();
+    if blocks != conditions {
+        return Err(Refusal::Count(BlockCount { blocks, conditions }));
     }
+    judge_blocks(alloc, program, &labels, &certificate.blocks)
 }
 
-/// The verdict of the certificate with this name over the source with that name.
-pub fn check<'a, S: Store>(
+/// Checks the source with this name by the certificate with that name: prints the verdict, or why there is none, and gives
+/// the status.
+pub fn check<S: Store, O: Sink>(
     alloc: Global,
     store: &mut S,
-    source: &'a str,
-    cert: &'a str,
-) -> Result<Verdict, Refusal<'a>>
-    ensures answer { (m : Map) → S.contents store.old ≡ Some m → IsCheckAnswer m source.entry.now cert.entry.now result }
-    ensures safe { (m : Map) → S.contents store.old ≡ Some m → result ≡ Ok Verdict.Yes → IsSafeAnswer m source.entry.now }
-    ensures fault { IsReadFault result → S.read_faults store.old < S.read_faults store.new }
-    ensures never_falls { S.read_faults store.old ≤ S.read_faults store.new }
+    source: &str,
+    cert: &str,
+    out: &mut O,
+) -> u8
+    ensures checked { (m : Map) → S.contents store.old ≡ Some m → IsChecked m source.now cert.now
+        (read_counts (S.read_faults store.old) (S.read_faults store.new))
+        (wrote (O.faults out.old) (O.faults out.new) (O.written out.old) (O.written out.new)) result }
+    ensures safe { (m : Map) → S.contents store.old ≡ Some m → result ≡ 0 → HoldsSafe m source.now }
     ensures kept { S.contents store.new ≡ S.contents store.old }
 {
-    conditions_mean_safe();
-    let bytes = match read(alloc, store, source, Limit::SourceBytes) {
-        Ok(bytes) => bytes,
-        Err(refusal) => return Err(refusal),
+    sources_are_annotated();
+    sources_are_safe();
+    let program = match read_program(alloc, store, source) {
+        Ok(program) => program,
+        Err(refusal) => return report(out, Err(refusal)),
     };
-    match read_program(alloc, &bytes) {
-        Ok(program) => {
-            let answer = judge_name(alloc, store, &program, cert);
-            answer
-        }
-        Err(refusal) => Err(refusal),
-    }
+    let answer = judge_name(alloc, store, &program, cert);
+    let status = report(out, answer);
+    status
 }

@@ -1,15 +1,12 @@
 //! The top call.
 
-ghost use Rattle.std.specs.Prelude.{◌≡◌, ◌⊎◌, ◌≤◌, List, ℕ, length, Some};
-ghost use Rattle.first_program.specs.Reads.{IsFirstForm};
+ghost use Rattle.std.specs.Prelude.{◌≡◌, ◌⊎◌, ◌≤◌, List, ℕ, Some};
 ghost use Rattle.vcc_base.specs.Maps.{Map};
-ghost use Rattle.vcc_base.specs.Limits.{number_of};
 ghost use Rattle.vcc_cli.specs.Command.{IsCheck, texts};
-ghost use Rattle.vcc_cli.specs.Accepts.{Accepts};
-ghost use Rattle.vcc_cli.specs.Answer.{IsAccepted, IsCheckOf, SourceIsSafe};
+ghost use Rattle.vcc_cli.specs.Accepts.{IsAcceptable, IsAccepted, IsCheckOf, SourceIsSafe};
 ghost use Rattle.vcc_cli.specs.Lines.{wrote};
 ghost use Rattle.vcc_cli.specs.Run.{read_counts};
-ghost use Rattle.vcc_cli.specs.Replays.{EndsWith};
+ghost use Rattle.vcc_cli.specs.Ends.{EndsWith, GetsYes};
 
 use crate::check::check;
 use crate::command::{check_command, run_command};
@@ -17,7 +14,6 @@ use crate::refusal::Refusal;
 use crate::report::report;
 use crate::run::run;
 use std::alloc::Global;
-use vcc_base::limit::Limit;
 use vcc_base::sink::Sink;
 use vcc_base::store::Store;
 
@@ -30,18 +26,17 @@ pub fn vcc_main<S: Store, O: Sink>(
     store: &mut S,
     out: &mut O,
 ) -> u8
-    // A yes of a check is sound: the source that the words name reads as a program that is safe.
+    // A yes of a check is sound: the source that the words name reads as a program that is safe in every interleaving.
     ensures safe { (m : Map) → S.contents store.old ≡ Some m →
         (source cert : List ℕ) → IsCheck (texts words.now) source cert → result ≡ 0 → SourceIsSafe m (texts words.now) }
     // A check's yes only on acceptance.
     ensures accepted { (m : Map) → S.contents store.old ≡ Some m →
         (source cert : List ℕ) → IsCheck (texts words.now) source cert → result ≡ 0 → IsAccepted m (texts words.now) }
-    // Acceptance gets yes, or out of memory: where no read or write failed, and the bytes are no more than the limits allow.
+    // Acceptance gets yes, or out of memory, or a condition needs too many terms: where no read or write failed.
     ensures complete { (m : Map) → S.contents store.old ≡ Some m →
-        (source cert : List ℕ) (accepts : Accepts source cert) → IsCheckOf m (texts words.now) source cert →
-        IsFirstForm source accepts.program → length cert ≤ number_of Limit.CertBytes →
+        (source cert : List ℕ) → IsAcceptable source cert → IsCheckOf m (texts words.now) source cert →
         S.read_faults store.new ≤ S.read_faults store.old → O.faults out.new ≤ O.faults out.old →
-        (result ≡ 0) ⊎ (result ≡ 8) }
+        GetsYes (wrote (O.faults out.old) (O.faults out.new) (O.written out.old) (O.written out.new)) result }
     // Each answer, its line and its status are those of the words; a read or a write fault only where one happened.
     ensures exact { (m : Map) → S.contents store.old ≡ Some m → EndsWith m (texts words.now)
         (read_counts (S.read_faults store.old) (S.read_faults store.new))
@@ -50,8 +45,7 @@ pub fn vcc_main<S: Store, O: Sink>(
 {
     match check_command(words) {
         Some((source, cert)) => {
-            let answer = check(alloc, store, source, cert);
-            let status = report(out, answer);
+            let status = check(alloc, store, source, cert, out);
             status
         }
         None => match run_command(words) {

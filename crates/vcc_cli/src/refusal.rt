@@ -5,7 +5,7 @@ use int_ranges::exact::Wide;
 use typing_expressions::violations::Violation;
 use vcc_base::limit::Limit;
 
-/// What is wrong with a line of a schedule.
+/// What is wrong with a line of a certificate or of a schedule.
 #[derive(Clone, Copy, Debug, PartialEq, Eq)]
 pub enum LineFault {
     BadLine,
@@ -13,6 +13,13 @@ pub enum LineFault {
     CutShort,
     Trailing,
     CountOver,
+}
+
+/// How many blocks a certificate has, and how many conditions a source.
+#[derive(Clone, Copy, Debug, PartialEq, Eq)]
+pub struct BlockCount {
+    pub blocks: usize,
+    pub conditions: usize,
 }
 
 /// Why a command gives no verdict.
@@ -32,15 +39,15 @@ pub enum Refusal<'a> {
     UnknownForm(Span),
     /// The first typing rule that the source breaks.
     BreaksRule(Violation),
-    /// The source isn't of the form that is built so far.
-    NotBuilt,
-    /// The certificate isn't well formed, or has another number of blocks than there are conditions.
-    Refused,
+    /// The certificate's first fault: its line, and what is wrong with it.
+    BadCertificate(u32, LineFault),
+    /// The certificate has another number of blocks than the source has conditions.
+    Count(BlockCount),
     /// The schedule's first fault: its line, and what is wrong with it.
     BadSchedule(u32, LineFault),
     /// The schedule's arguments don't fit main.
     BadArgs,
-    /// An annotation's value leaves 128 bits.
+    /// A number leaves 128 bits: an annotation's value in a replay, or what a step of a certificate works out.
     Wide(Wide),
     /// A serial, a thread's number or a claim count would be past the greatest that a heap holds.
     Exhausted,

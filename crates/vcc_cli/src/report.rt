@@ -1,74 +1,80 @@
 //! What the program prints, and its status.
 
 ghost use Rattle.std.specs.Prelude.{◌≡◌, ◌<◌, ◌≤◌, ◌++◌, OnOk, OnErr, IsErrOf, codes, decimal};
+ghost use Rattle.schedule_replay.specs.Printing.{Writes, Front};
 ghost use Rattle.typing_spec.specs.Rules.{number as number_of_rule};
 ghost use Rattle.typing_expressions.specs.Views.{rule};
 ghost use Rattle.vcc_base.specs.Maps.{NowWritten, FrontWritten};
 ghost use Rattle.vcc_base.specs.Limits.{number_of, name_of};
-ghost use Rattle.vcc_cli.specs.Lines.{IsReported, fault_name, line, line_of, place_text, schedule_line, source_line, status_of, wide_line, wrote};
+ghost use Rattle.vcc_cli.specs.Lines.{IsReported, cert_line, count_line, fault_name, line, line_of, no_line, schedule_line, source_line, status_of, wide_line, wrote};
 
-use crate::judge::{Label, Verdict};
-use crate::refusal::{LineFault, Refusal};
+use crate::refusal::{BlockCount, LineFault, Refusal};
+use crate::verdict::{Failing, Verdict};
 use c_syntax::token::Span;
+use schedule_replay::lines::kind_name;
+use schedule_replay::put::{Piece, put_line};
 use typing_expressions::violations::Violation;
 use vcc_base::limit::Limit;
 use vcc_base::sink::{Sink, SinkFault};
-use vcc_base::whole::{put_all, put_natural, put_number};
+use vcc_base::whole::put_all;
 
 /// The line of a check that doesn't follow.
-fn put_no<O: Sink>(out: &mut O, label: Label) -> Result<(), SinkFault>
-    ensures ok { OnOk result (NowWritten (O.written out.old) (O.written out.new) (codes "no: main/" ++ (decimal label.ordinal ++ (codes " Assert line " ++ line (decimal label.line))))) }
-    ensures err { OnErr result (FrontWritten (O.written out.old) (O.written out.new) (codes "no: main/" ++ (decimal label.ordinal ++ (codes " Assert line " ++ line (decimal label.line))))) }
+fn put_no<O: Sink>(out: &mut O, failing: Failing<'_>) -> Result<(), SinkFault>
+    ensures ok { Writes result (O.written out.old) (O.written out.new) (no_line failing.entry) }
+    ensures err { Front result (O.written out.old) (O.written out.new) (no_line failing.entry) }
     ensures failed { IsErrOf result SinkFault.Failed → O.faults out.old < O.faults out.new }
     ensures never_falls { O.faults out.old ≤ O.faults out.new }
 {
-    put_all(out, b"no: main/")?;
-    put_natural(out, label.ordinal as u64)?;
-    put_all(out, b" Assert line ")?;
-    put_natural(out, u64::from(label.line))?;
-    put_all(out, b"\n")?;
-    Ok(())
+    put_line(
+        out,
+        &[
+            Piece::Text(b"no: "),
+            Piece::Text(failing.name),
+            Piece::Text(b"/"),
+            Piece::Count(failing.label.ordinal as u64),
+            Piece::Text(b" "),
+            Piece::Text(kind_name(failing.label.kind)),
+            Piece::Text(b" line "),
+            Piece::Natural(failing.label.line),
+            Piece::Text(b"\n"),
+        ],
+    )
 }
 
 /// A line of a word and a name.
-fn put_named<O: Sink>(out: &mut O, word: &[u8], name: &str) -> Result<(), SinkFault>
-    ensures ok { OnOk result (NowWritten (O.written out.old) (O.written out.new) (word.now ++ line name.now)) }
-    ensures err { OnErr result (FrontWritten (O.written out.old) (O.written out.new) (word.now ++ line name.now)) }
+fn put_named<'a, O: Sink>(out: &mut O, word: &'a [u8], name: &'a str) -> Result<(), SinkFault>
+    ensures ok { Writes result (O.written out.old) (O.written out.new) (word.now ++ line name.now) }
+    ensures err { Front result (O.written out.old) (O.written out.new) (word.now ++ line name.now) }
     ensures failed { IsErrOf result SinkFault.Failed → O.faults out.old < O.faults out.new }
     ensures never_falls { O.faults out.old ≤ O.faults out.new }
 {
-    put_all(out, word)?;
-    put_all(out, name.as_bytes())?;
-    put_all(out, b"\n")?;
-    Ok(())
-}
-
-/// A place: its line and its column.
-fn put_place<O: Sink>(out: &mut O, place: Span) -> Result<(), SinkFault>
-    ensures ok { OnOk result (NowWritten (O.written out.old) (O.written out.new) (place_text place)) }
-    ensures err { OnErr result (FrontWritten (O.written out.old) (O.written out.new) (place_text place)) }
-    ensures failed { IsErrOf result SinkFault.Failed → O.faults out.old < O.faults out.new }
-    ensures never_falls { O.faults out.old ≤ O.faults out.new }
-{
-    put_natural(out, u64::from(place.line))?;
-    put_all(out, b":")?;
-    put_natural(out, u64::from(place.column))?;
-    Ok(())
+    put_line(
+        out,
+        &[
+            Piece::Text(word),
+            Piece::Text(name.as_bytes()),
+            Piece::Text(b"\n"),
+        ],
+    )
 }
 
 /// The line of a limit.
 fn put_limit<O: Sink>(out: &mut O, limit: Limit) -> Result<(), SinkFault>
-    ensures ok { OnOk result (NowWritten (O.written out.old) (O.written out.new) (codes "limit: " ++ (name_of limit ++ (codes " " ++ line (decimal (number_of limit)))))) }
-    ensures err { OnErr result (FrontWritten (O.written out.old) (O.written out.new) (codes "limit: " ++ (name_of limit ++ (codes " " ++ line (decimal (number_of limit)))))) }
+    ensures ok { Writes result (O.written out.old) (O.written out.new) (codes "limit: " ++ (name_of limit ++ (codes " " ++ line (decimal (number_of limit))))) }
+    ensures err { Front result (O.written out.old) (O.written out.new) (codes "limit: " ++ (name_of limit ++ (codes " " ++ line (decimal (number_of limit))))) }
     ensures failed { IsErrOf result SinkFault.Failed → O.faults out.old < O.faults out.new }
     ensures never_falls { O.faults out.old ≤ O.faults out.new }
 {
-    put_all(out, b"limit: ")?;
-    put_all(out, limit.name().as_bytes())?;
-    put_all(out, b" ")?;
-    put_natural(out, limit.number())?;
-    put_all(out, b"\n")?;
-    Ok(())
+    put_line(
+        out,
+        &[
+            Piece::Text(b"limit: "),
+            Piece::Text(limit.name().as_bytes()),
+            Piece::Text(b" "),
+            Piece::Count(limit.number()),
+            Piece::Text(b"\n"),
+        ],
+    )
 }
 
 /// The name of what is wrong with a line.
@@ -84,51 +90,103 @@ fn fault_name(fault: LineFault) -> &'static [u8]
     }
 }
 
-/// The line of a schedule's fault.
-fn put_schedule_fault<O: Sink>(out: &mut O, line: u32, fault: LineFault) -> Result<(), SinkFault>
-    ensures ok { OnOk result (NowWritten (O.written out.old) (O.written out.new) (schedule_line line fault)) }
-    ensures err { OnErr result (FrontWritten (O.written out.old) (O.written out.new) (schedule_line line fault)) }
+/// The line of a certificate's fault.
+fn put_cert_fault<O: Sink>(out: &mut O, line: u32, fault: LineFault) -> Result<(), SinkFault>
+    ensures ok { Writes result (O.written out.old) (O.written out.new) (cert_line line fault) }
+    ensures err { Front result (O.written out.old) (O.written out.new) (cert_line line fault) }
     ensures failed { IsErrOf result SinkFault.Failed → O.faults out.old < O.faults out.new }
     ensures never_falls { O.faults out.old ≤ O.faults out.new }
 {
-    put_all(out, b"schedule line ")?;
-    put_natural(out, u64::from(line))?;
-    put_all(out, b": ")?;
-    put_all(out, fault_name(fault))?;
-    put_all(out, b"\n")?;
-    Ok(())
+    put_line(
+        out,
+        &[
+            Piece::Text(b"certificate line "),
+            Piece::Natural(line),
+            Piece::Text(b": "),
+            Piece::Text(fault_name(fault)),
+            Piece::Text(b"\n"),
+        ],
+    )
 }
 
-/// The line of a value that leaves 128 bits: the operands of its operation.
-fn put_wide<O: Sink>(out: &mut O, left: i128, right: i128) -> Result<(), SinkFault>
-    ensures ok { OnOk result (NowWritten (O.written out.old) (O.written out.new) (wide_line left right)) }
-    ensures err { OnErr result (FrontWritten (O.written out.old) (O.written out.new) (wide_line left right)) }
+/// The line of a certificate with another number of blocks than the source has conditions.
+fn put_count<O: Sink>(out: &mut O, count: BlockCount) -> Result<(), SinkFault>
+    ensures ok { Writes result (O.written out.old) (O.written out.new) (count_line count) }
+    ensures err { Front result (O.written out.old) (O.written out.new) (count_line count) }
     ensures failed { IsErrOf result SinkFault.Failed → O.faults out.old < O.faults out.new }
     ensures never_falls { O.faults out.old ≤ O.faults out.new }
 {
-    put_all(out, b"limit: Wide ")?;
-    put_number(out, left)?;
-    put_all(out, b" ")?;
-    put_number(out, right)?;
-    put_all(out, b"\n")?;
-    Ok(())
+    put_line(
+        out,
+        &[
+            Piece::Text(b"certificate: conditions "),
+            Piece::Count(count.blocks as u64),
+            Piece::Text(b", source has "),
+            Piece::Count(count.conditions as u64),
+            Piece::Text(b"\n"),
+        ],
+    )
+}
+
+/// The line of a schedule's fault.
+fn put_schedule_fault<O: Sink>(out: &mut O, line: u32, fault: LineFault) -> Result<(), SinkFault>
+    ensures ok { Writes result (O.written out.old) (O.written out.new) (schedule_line line fault) }
+    ensures err { Front result (O.written out.old) (O.written out.new) (schedule_line line fault) }
+    ensures failed { IsErrOf result SinkFault.Failed → O.faults out.old < O.faults out.new }
+    ensures never_falls { O.faults out.old ≤ O.faults out.new }
+{
+    put_line(
+        out,
+        &[
+            Piece::Text(b"schedule line "),
+            Piece::Natural(line),
+            Piece::Text(b": "),
+            Piece::Text(fault_name(fault)),
+            Piece::Text(b"\n"),
+        ],
+    )
+}
+
+/// The line of a number that leaves 128 bits: the operands of its operation.
+fn put_wide<O: Sink>(out: &mut O, left: i128, right: i128) -> Result<(), SinkFault>
+    ensures ok { Writes result (O.written out.old) (O.written out.new) (wide_line left right) }
+    ensures err { Front result (O.written out.old) (O.written out.new) (wide_line left right) }
+    ensures failed { IsErrOf result SinkFault.Failed → O.faults out.old < O.faults out.new }
+    ensures never_falls { O.faults out.old ≤ O.faults out.new }
+{
+    put_line(
+        out,
+        &[
+            Piece::Text(b"limit: Wide "),
+            Piece::Integer(left),
+            Piece::Text(b" "),
+            Piece::Integer(right),
+            Piece::Text(b"\n"),
+        ],
+    )
 }
 
 /// The line of a fault of the source, which is a fault of this stage with this number.
 fn put_fault<O: Sink>(out: &mut O, place: Span, stage: &[u8], number: u64) -> Result<(), SinkFault>
-    ensures ok { OnOk result (NowWritten (O.written out.old) (O.written out.new) (source_line place stage.now number)) }
-    ensures err { OnErr result (FrontWritten (O.written out.old) (O.written out.new) (source_line place stage.now number)) }
+    ensures ok { Writes result (O.written out.old) (O.written out.new) (source_line place stage.now number) }
+    ensures err { Front result (O.written out.old) (O.written out.new) (source_line place stage.now number) }
     ensures failed { IsErrOf result SinkFault.Failed → O.faults out.old < O.faults out.new }
     ensures never_falls { O.faults out.old ≤ O.faults out.new }
 {
-    put_all(out, b"source ")?;
-    put_place(out, place)?;
-    put_all(out, b": ")?;
-    put_all(out, stage)?;
-    put_all(out, b" ")?;
-    put_natural(out, number)?;
-    put_all(out, b"\n")?;
-    Ok(())
+    put_line(
+        out,
+        &[
+            Piece::Text(b"source "),
+            Piece::Natural(place.line),
+            Piece::Text(b":"),
+            Piece::Natural(place.column),
+            Piece::Text(b": "),
+            Piece::Text(stage),
+            Piece::Text(b" "),
+            Piece::Count(number),
+            Piece::Text(b"\n"),
+        ],
+    )
 }
 
 /// The line of a broken typing rule: its place and its number.
@@ -143,14 +201,17 @@ fn put_broken<O: Sink>(out: &mut O, broken: Violation) -> Result<(), SinkFault>
 }
 
 /// Prints the line of an answer.
-fn put_answer<O: Sink>(out: &mut O, answer: Result<Verdict, Refusal<'_>>) -> Result<(), SinkFault>
+fn put_answer<O: Sink>(
+    out: &mut O,
+    answer: Result<Verdict<'_>, Refusal<'_>>,
+) -> Result<(), SinkFault>
     ensures ok { OnOk result (NowWritten (O.written out.old) (O.written out.new) (line_of answer.entry)) }
     ensures err { OnErr result (FrontWritten (O.written out.old) (O.written out.new) (line_of answer.entry)) }
     ensures failed { IsErrOf result SinkFault.Failed → O.faults out.old < O.faults out.new }
 {
     match answer {
         Ok(Verdict::Yes) => put_all(out, b"yes\n"),
-        Ok(Verdict::No(label)) => put_no(out, label),
+        Ok(Verdict::No(failing)) => put_no(out, failing),
         Err(Refusal::Usage) => put_all(out, b"usage: vcc check SOURCE CERT, run SOURCE SCHEDULE\n"),
         Err(Refusal::BadByte(place)) => put_fault(out, place, b"token", 1),
         Err(Refusal::BadNumber(place)) => put_fault(out, place, b"token", 2),
@@ -158,8 +219,8 @@ fn put_answer<O: Sink>(out: &mut O, answer: Result<Verdict, Refusal<'_>>) -> Res
         Err(Refusal::Unexpected(place)) => put_fault(out, place, b"syntax", 1),
         Err(Refusal::UnknownForm(place)) => put_fault(out, place, b"syntax", 2),
         Err(Refusal::BreaksRule(broken)) => put_broken(out, broken),
-        Err(Refusal::NotBuilt) => put_all(out, b"source: not built\n"),
-        Err(Refusal::Refused) => put_all(out, b"certificate: refused\n"),
+        Err(Refusal::BadCertificate(line, fault)) => put_cert_fault(out, line, fault),
+        Err(Refusal::Count(count)) => put_count(out, count),
         Err(Refusal::BadSchedule(line, fault)) => put_schedule_fault(out, line, fault),
         Err(Refusal::BadArgs) => put_all(out, b"schedule: BadArgs\n"),
         Err(Refusal::Wide(wide)) => put_wide(out, wide.a, wide.b),
@@ -172,7 +233,7 @@ fn put_answer<O: Sink>(out: &mut O, answer: Result<Verdict, Refusal<'_>>) -> Res
 }
 
 /// The status that goes with an answer's line.
-fn status(answer: Result<Verdict, Refusal<'_>>) -> u8
+fn status(answer: Result<Verdict<'_>, Refusal<'_>>) -> u8
     ensures { result ≡ status_of answer.entry }
 {
     match answer {
@@ -185,8 +246,8 @@ fn status(answer: Result<Verdict, Refusal<'_>>) -> u8
         Err(Refusal::Unexpected(_)) => 3,
         Err(Refusal::UnknownForm(_)) => 3,
         Err(Refusal::BreaksRule(_)) => 3,
-        Err(Refusal::NotBuilt) => 3,
-        Err(Refusal::Refused) => 4,
+        Err(Refusal::BadCertificate(_, _)) => 4,
+        Err(Refusal::Count(_)) => 4,
         Err(Refusal::BadSchedule(_, _)) => 3,
         Err(Refusal::BadArgs) => 3,
         Err(Refusal::Wide(_)) => 5,
@@ -199,7 +260,7 @@ fn status(answer: Result<Verdict, Refusal<'_>>) -> u8
 }
 
 /// Prints the line of an answer, and gives its status; a write fault or want of memory replaces it.
-pub fn report<O: Sink>(out: &mut O, answer: Result<Verdict, Refusal<'_>>) -> u8
+pub fn report<O: Sink>(out: &mut O, answer: Result<Verdict<'_>, Refusal<'_>>) -> u8
     ensures reported { IsReported answer.entry
         (wrote (O.faults out.old) (O.faults out.new) (O.written out.old) (O.written out.new)) result }
 {

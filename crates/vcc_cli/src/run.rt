@@ -7,10 +7,9 @@ ghost use Rattle.schedule_replay.specs.ReplayText.{replay_of};
 ghost use Rattle.vcc_cli.specs.Faults.{IsReadFault};
 ghost use Rattle.vcc_cli.specs.Lines.{wrote};
 ghost use Rattle.vcc_cli.specs.Run.{read_counts};
-ghost use Rattle.vcc_cli.specs.Replays.{HoldsProgram, HoldsSchedule, IsNoSchedule, IsReplayed, IsRunOfNames, IsScheduleStop, IsSourceStop, IsStop};
+ghost use Rattle.vcc_cli.specs.Replays.{HoldsSchedule, IsNoSchedule, IsReplayed, IsRunOfNames, IsScheduleStop, IsStop};
 
-use crate::check::read;
-use crate::program::typed_program;
+use crate::program::{read, read_program};
 use crate::refusal::{LineFault, Refusal};
 use crate::report::report;
 use method::program::Program;
@@ -23,24 +22,6 @@ use std::alloc::Global;
 use vcc_base::limit::Limit;
 use vcc_base::sink::{Sink, SinkFault};
 use vcc_base::store::Store;
-
-/// The typed program of the source with this name.
-fn read_program<'a, S: Store>(
-    alloc: Global,
-    store: &mut S,
-    name: &'a str,
-) -> Result<Program, Refusal<'a>>
-    ensures answer { (m : Map) → S.contents store.old ≡ Some m →
-        MatchResult result (HoldsProgram m name.entry.now) (IsSourceStop m name.entry.now) }
-    ensures fault { IsReadFault result → S.read_faults store.old < S.read_faults store.new }
-    ensures never_falls { S.read_faults store.old ≤ S.read_faults store.new }
-    ensures kept { S.contents store.new ≡ S.contents store.old }
-{
-    match read(alloc, store, name, Limit::SourceBytes) {
-        Ok(bytes) => typed_program(alloc, &bytes),
-        Err(refusal) => Err(refusal),
-    }
-}
 
 /// The refusal of a schedule with this fault.
 fn refusal_of<'a>(fault: ScheduleFault) -> Refusal<'a>

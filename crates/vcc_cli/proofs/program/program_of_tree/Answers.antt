@@ -1,12 +1,8 @@
-use Rattle.c_syntax.specs.Views.{items_of}
-use Rattle.typing_spec.specs.FirstLaws.{none_broken}
 use Rattle.std.proofs.Common.{subst}
+use Rattle.c_syntax.specs.Views.{items_of}
 use Rattle.c_types.specs.Typed.{IsTypeFault}
 use Rattle.vcc_cli.proofs.Programs.{breaks_first}
 use Rattle.vcc_cli.proofs.program.program_of_tree.Goals as goal
-
-pub returns-in-Ok-clause-typed : goal.returns-in-Ok-clause-typed
-returns-in-Ok-clause-typed c = none_broken (items_of c.args.tree.now) c.args.tree.now.end c.in-Ok.ensures.typed.unbroken
 
 pub returns-in-Err-Rule-clause-refused : goal.returns-in-Err-Rule-clause-refused
 returns-in-Err-Rule-clause-refused c = λ bytes text within.

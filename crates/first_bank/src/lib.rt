@@ -1,5 +1,0 @@
-//! Terms in which no term stands twice, by their numbers.
-#![tactic(auto)]
-
-pub mod bank;
-pub mod law;

@@ -1,5 +1,0 @@
-//! Certificates, and their text.
-#![tactic(auto)]
-
-pub mod certificate;
-pub mod decode;

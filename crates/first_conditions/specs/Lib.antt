@@ -1,4 +1,0 @@
-pub mod Translation
-pub mod Conditions
-pub mod Facts
-pub mod Law

@@ -1,2 +1,0 @@
-pub mod Literal
-pub mod Meaning
