@@ -1,3 +1,4 @@
 pub mod Kinds
 pub mod Labels
+pub mod Names
 pub mod Tallies

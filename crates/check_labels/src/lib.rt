@@ -6,6 +6,7 @@ pub mod inner;
 pub mod kinds;
 pub mod labels;
 pub mod lines;
+pub mod names;
 pub mod simples;
 pub mod statements;
 pub mod tables;

@@ -37,7 +37,7 @@ impl ItemConditions {
     }
 
     /// Those of the item.
-    fn of(alloc: Global, program: &Program, item: Item) -> Result<ItemConditions, AllocError>
+    pub fn of(alloc: Global, program: &Program, item: Item) -> Result<ItemConditions, AllocError>
         ensures { IfOk result (λ c. Remain c (item_conditions program.now item)) }
     {
         let mut walk = Walk::new(alloc);
@@ -51,7 +51,7 @@ impl ItemConditions {
     }
 
     /// The next one, as a formula of the graph; none behind the last.
-    fn give(&mut self) -> Result<Option<u32>, AllocError>
+    pub fn give(&mut self) -> Result<Option<u32>, AllocError>
         ensures { (fs : List Formula) → Remain self.old fs →
             IfOk result (λ o. Answers self.new.graph self.new.emitter self.new.path.items o fs) }
     {

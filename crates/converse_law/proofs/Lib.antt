@@ -1,0 +1,12 @@
+pub mod Paths
+pub mod Callees
+pub mod CallFits
+pub mod CallParts
+pub mod CallsBack
+pub mod Allocations
+pub mod ActsBack
+pub mod BodiesBack
+pub mod Plainness
+pub mod Valid
+pub mod Exact
+pub mod Samples

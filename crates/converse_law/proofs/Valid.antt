@@ -1,0 +1,210 @@
+-- Where no local run of a plain function fails a check, the check's condition is valid.
+use Rattle.std.proofs.Common.{◌≡◌, ℕ, zero, suc, ◌≤◌, inl, inr, Bool, true, false, not, ◌||◌, if◌then◌else◌, List, [], ◌∷◌, ◌++◌, length, take, drop, slice_get, Some, refl, ap, sym, ◌∙◌, subst, arith, true≢false}
+use Rattle.std.specs.Prelude.{nat_lt}
+use Rattle.std.proofs.lemmas.Bool.{eq-eqb, leb-true}
+use Rattle.object_types.specs.declared.references.Ref.{Ref}
+use Rattle.object_types.specs.declared.values.Value.{Value}
+use Rattle.object_types.specs.References.{thread}
+use Rattle.object_types.specs.Sets.{every}
+use Rattle.method.specs.declared.program.Action.{Action}
+use Rattle.method.specs.declared.program.Action.TheVariants.{Simply, Declare, Define, WrapObject, UnwrapObject, AssertSpec, FreeObject, SpawnThread, Atomic}
+use Rattle.method.specs.declared.program.RightSide.TheVariants.{Compute, Malloc, NewClaim, Interlocked}
+use Rattle.method.specs.declared.program.Simple.TheVariants.{Assign, ChangeOwned, EndClaim}
+use Rattle.method.specs.declared.program.Spec.{Spec}
+use Rattle.method.specs.declared.program.Stmt.{Stmt, Row_of-Stmt, end_of-Stmt, more_of-Stmt}
+use Rattle.method.specs.declared.program.Stmt.TheVariants.{Do, If', While', DoWhile', Unwrapping', Call, Return}
+use Rattle.method.specs.declared.program.VariableInfo.{VariableInfo}
+use Rattle.method.specs.declared.program.FunctionInfo.{FunctionInfo}
+use Rattle.method.specs.declared.program.Program.{Program}
+use Rattle.method.specs.Tables.{local, in_type}
+use Rattle.method.specs.Scopes.{Scoped}
+use Rattle.method.specs.Typing.{WellTyped}
+use Rattle.method.specs.Expressions.{call_scene}
+use Rattle.method.specs.Actions.{clauses_hold}
+use Rattle.method.specs.Machine.{fit_parameters, requires_hold, in_types, zeros_of, begin_with}
+use Rattle.method.specs.LocalRuns.{Lazily, FailsBodyBy, LazyOk, LocalOk}
+use Rattle.method.proofs.Global.{and_both}
+use Rattle.quiet_law.proofs.LazyRuns.{lazy_runs_suffice}
+use Rattle.terms.specs.Formula.{Formula}
+use Rattle.term_meaning.specs.Meaning.{Language}
+use Rattle.axiom_instances.proofs.Facts.{Shown as ShownHeap}
+use Rattle.conditions.specs.Formulas.{me, heap}
+use Rattle.conditions.specs.Paths.{Path}
+use Rattle.conditions.specs.Code.{new_heap, call_scene as term_call}
+use Rattle.conditions.specs.Actions.{clauses}
+use Rattle.conditions.specs.Statements.{body, parameter_ranges, zeros, empty_state, entry_facts}
+use Rattle.conditions.specs.Conditions.{function_conditions}
+use Rattle.conditions.specs.Paths.{conditions}
+use Rattle.conditions.specs.Ways.{AllHold, FailsIn, IsValidAt, IsPlain}
+use Rattle.conditions.proofs.WaysBetween.{all_between, fails_between}
+use Rattle.condition_walks.proofs.Entry.{entry_values, entry_state, first_spot, entry_spot, run_conditions, entry_sorted, sorted_many, values_heap}
+use Rattle.condition_walks.proofs.Fitting as fitting
+use Rattle.condition_walks.proofs.Fitting.{ConversionsAreReceived, FitsBody, TextBody, at_entry, body_fits}
+use Rattle.condition_meaning.specs.Languages.{language_of}
+use Rattle.condition_meaning.specs.Annotated.{Annotated}
+use Rattle.condition_meaning.specs.FunctionWords.{ContractFits}
+use Rattle.condition_meaning.proofs.Environments.{Environment, Holds}
+use Rattle.condition_meaning.proofs.FunctionScenes.{contract_fits}
+use Rattle.condition_meaning.proofs.Interference.{good_of, heap_of}
+use Rattle.condition_meaning.proofs.Known.{Known, known_holds}
+use Rattle.condition_meaning.proofs.WalksBack.{fails_there}
+use Rattle.action_conditions.proofs.Annotations.{SetFits}
+use Rattle.method.specs.Tables.{struct_of}
+use Rattle.function_law.specs.Checks.{ValidAt, CheckIsValid}
+use Rattle.function_law.proofs.Converse.{values_back, all_are_true, entry_shown, valid_unless}
+use Rattle.function_law.proofs.Given as given
+use Rattle.function_law.proofs.LocalValid.{all_threads}
+use Rattle.function_law.proofs.Parts as parts
+use Rattle.function_law.proofs.Texts.{SpecText, WrapText, PlainText, ActionText}
+use Rattle.function_law.proofs.TextTests.{OtherText, is_other, text_said}
+use Rattle.converse_law.proofs.BodiesBack as bodies
+use Rattle.converse_law.proofs.Plainness.{plain_body}
+use Rattle.converse_law.specs.Plain.{is_plain_action, is_plain_stmt, is_plain_row, is_plain}
+
+-- The text of a plain function.
+
+other_not_plain : (c : Action) → is_other c ≡ true → is_plain_action c ≡ true → ⊥
+other_not_plain (Simply (Assign t (Compute e))) o d = absurd (cc)
+other_not_plain (Simply (Assign t (Malloc ty))) o d = absurd (cc)
+other_not_plain (Simply (Assign t (NewClaim n))) o d = absurd (cc)
+other_not_plain (Simply (Assign t (Interlocked e n op c))) o d = absurd (cc)
+other_not_plain (Simply (ChangeOwned q e es)) o d = absurd (cc)
+other_not_plain (Simply (EndClaim q e es)) o d = absurd (cc)
+other_not_plain (Declare i) o d = absurd (cc)
+other_not_plain (Define i (Compute e)) o d = absurd (cc)
+other_not_plain (Define i (Malloc ty)) o d = absurd (cc)
+other_not_plain (Define i (NewClaim n)) o d = absurd (cc)
+other_not_plain (Define i (Interlocked e n op c)) o d = absurd (cc)
+other_not_plain (WrapObject ty q e) o d = absurd (cc)
+other_not_plain (UnwrapObject e) o d = absurd (cc)
+other_not_plain (AssertSpec e) o d = absurd (cc)
+other_not_plain (FreeObject e) o d = absurd (cc)
+other_not_plain (SpawnThread g es) o d = absurd (cc)
+other_not_plain (Atomic ls body) o d = absurd (cc)
+
+module _ (p : Program) (good : Annotated p) (number : ℕ) (f : FunctionInfo) (fis : slice_get p.functions.items number ≡ Some f) where
+  -- what is said of the actions and annotations of a plain text
+  abbrev PlainActs : Action → Type 0
+  PlainActs c = PlainText p good number f fis c × (is_plain_action c ≡ true)
+
+  abbrev Acts : Action → Type 0
+  Acts = ActionText p good number f fis (OtherText p number f)
+
+  abbrev Specs : Spec → Type 0
+  Specs e = SpecText p good number f fis e
+
+  plain_said : (c : Action) → is_plain_action c ≡ true → Acts c → PlainActs c
+  plain_said c d (inl said) = (said, d)
+  plain_said c d (inr other) = absurd (other_not_plain c other.other d)
+
+  mutual
+    stmt_said : (s : Stmt) → is_plain_stmt s ≡ true → fitting.TextStmt p number f Acts Specs (WrapText p f) s → fitting.TextStmt p number f PlainActs Specs (WrapText p f) s
+    stmt_said (Do line c) d said = plain_said c d said
+    stmt_said (If' line in_ghost e m a n b) d said = let z = and_both (is_plain_row a) (is_plain_row b) d in (row_said a z.0 said.0, row_said b z.1 said.1)
+    stmt_said (While' line invs e m row) d said = (said.0, row_said row d said.1)
+    stmt_said (DoWhile' line invs m row tested e) d said = (said.0, row_said row d said.1)
+    stmt_said (Unwrapping' line ty q e m row) d said = (said.0, row_said row d said.1)
+    stmt_said (Call line to c g es) d said = tt
+    stmt_said (Return line e) d said = tt
+
+    row_said : {m : _} (row : Row_of-Stmt m) → is_plain_row row ≡ true → fitting.TextRow p number f Acts Specs (WrapText p f) row → fitting.TextRow p number f PlainActs Specs (WrapText p f) row
+    row_said end_of-Stmt d said = tt
+    row_said (more_of-Stmt s row) d said = let z = and_both (is_plain_stmt s) (is_plain_row row) d in (stmt_said s z.0 said.0, row_said row z.1 said.1)
+
+  body_said : (ss : List Stmt) → every is_plain_stmt ss ≡ true → TextBody p number f Acts Specs (WrapText p f) ss → TextBody p number f PlainActs Specs (WrapText p f) ss
+  body_said [] d said = tt
+  body_said (s ∷ ss) d said = let z = and_both (is_plain_stmt s) (every is_plain_stmt ss) d in (stmt_said s z.0 said.0, body_said ss z.1 said.1)
+
+-- The entry.
+
+all_apart : (E : Type 0) (H : E → Formula → Type 0) (e : E) (fs gs : List Formula) → AllHold E H e (fs ++ gs) → AllHold E H e fs × AllHold E H e gs
+all_apart E H e [] gs a = (tt, a)
+all_apart E H e (f ∷ fs) gs a = let z = all_apart E H e fs gs a.1 in ((a.0, z.0), z.1)
+
+take_many : (n : ℕ) (vs : List VariableInfo) → n ≤ length vs → length (take n vs) ≡ n
+take_many zero vs less = refl
+take_many (suc n) [] less = absurd (omega (arith, less))
+take_many (suc n) (v ∷ vs) less = ap suc (take_many n vs (omega (arith, less)))
+
+more_types : (n : ℕ) (vs : List VariableInfo) (xs : List Value) → in_types (take n vs) xs ≡ true → in_types vs xs ≡ true
+more_types zero [] xs t = t
+more_types zero (v ∷ vs) [] t = refl
+more_types zero (v ∷ vs) (x ∷ xs) t = absurd (true≢false (sym t))
+more_types (suc n) [] xs t = t
+more_types (suc n) (v ∷ vs) [] t = refl
+more_types (suc n) (v ∷ vs) (x ∷ xs) t = by (in_type v.ty x) t (λ k. more_types n vs xs k)
+  where
+    by : (b : Bool) → (if b then in_types (take n vs) xs else false) ≡ true → (in_types (take n vs) xs ≡ true → in_types vs xs ≡ true) → (if b then in_types vs xs else false) ≡ true
+    by true k more = more k
+    by false k more = absurd (true≢false (sym k))
+
+module _ (p : Program) (good : Annotated p) (typed : WellTyped p) (contracts : (n : ℕ) (g : FunctionInfo) → slice_get p.functions.items n ≡ Some g → ContractFits p g)
+    (number : ℕ) (f : FunctionInfo) (fis : slice_get p.functions.items number ≡ Some f)
+    (fits : FitsBody p number f (PlainActs p good number f fis) (Specs p good number f fis) (WrapText p f) (entry_spot p f) (at_entry p f) f.body.items)
+    (n0 label : ℕ)
+  where
+    abbrev l : Language
+    l = language_of p
+
+    abbrev T : Ref
+    T = thread n0
+
+    abbrev path : Path
+    path = (body p f (entry_spot p f) f.body.items (entry_state f)).path
+
+    abbrev known : List Formula
+    known = entry_facts p f (first_spot p f) (entry_state f)
+
+    hides_rest : (args : List Value) (j : ℕ) → length args ≡ f.parameters → length args ≤ j → at_entry p f j ≡ true
+    hides_rest args j same low = ap not (by_less (nat_lt j f.parameters) refl)
+      where
+        by_less : (b : Bool) → nat_lt j f.parameters ≡ b → b || false ≡ false
+        by_less false e = refl
+        by_less true e = absurd (let z = leb-true (suc j) f.parameters e in omega (arith, same, low, z))
+
+    -- an environment that knows the facts of the entry, and not a check's formula, gives a run that fails it
+    run_fails : LazyOk p number label → (e : Environment l T) → AllHold (Environment l T) (Known l T) e known → FailsIn (Environment l T) (Known l T) label 1 path e → ⊥
+    run_fails ok e k y =
+        let values = (entry_values f).values in
+        let vars = take f.parameters f.variables.items in
+        let held = all_between (Environment l T) e (Known l T) (Environment l T) e (Holds l T) (known_holds l T e) known k in
+        let parts_ = all_apart (Environment l T) (Holds l T) e (parameter_ranges vars values) (clauses p (first_spot p f) f.requires_.items (term_call me (entry_state f).heap values)) held.1 in
+        let h = heap_of l T e 0 in
+        let same : (entry_state f).heap ≡ heap 0 = values_heap vars (new_heap empty_state) in
+        let there = subst (λ (u : Formula). ShownHeap l e.env u h.0) (sym same) h.1 in
+        let h0 = h.0 in
+        let good0 = good_of l T e (entry_state f).heap h0 there k.0 in
+        let q = values_back l T e vars (new_heap empty_state) parts_.0 in
+        let args = q.values in
+        let many : length args ≡ f.parameters = q.many ∙ take_many f.parameters f.variables.items (leb-true f.parameters (length f.variables.items) (typed.parameters number f fis)) in
+        let fit : fit_parameters f args ≡ true = ap (λ b. if b then in_types f.variables.items args else false) (eq-eqb (length args) f.parameters many) ∙ more_types f.parameters f.variables.items args q.typed in
+        let stand = given.stand_so p good typed contracts number f fis n0 h0 args good0 fit e values args q.stand in
+        let spotted = given.spotted p good typed contracts number f fis n0 h0 args good0 fit e h.1.has stand in
+        let requires : requires_hold p f T h0 args ≡ true = all_are_true l T e (clauses p (first_spot p f) f.requires_.items (term_call me (entry_state f).heap values)) (clauses_hold p f.requires_.items (call_scene T h0 args)) (given.entry_are p good typed contracts number f fis n0 h0 args good0 fit e there.has stand) parts_.1 in
+        let zs = zeros_of (drop f.parameters f.variables.items) in
+        let steady = given.entry_steady p good typed contracts number f fis n0 h0 args good0 fit good0 fit in
+        let m = parts.back p good typed contracts number f fis n0 h0 args good0 fit e spotted (at_entry p f) (entry_state f) h0 (args ++ zs) (record {
+          spot = spotted;
+          many = sorted_many f.variables.items (entry_state f).locals (entry_sorted f);
+          heap = there.has;
+          locals = entry_shown l T e (length f.variables.items) (given.Spotted p good typed contracts number f fis n0 h0 args good0 fit) (at_entry p f) 0 values (zeros (drop f.parameters f.variables.items)) args zs (local (args ++ zs)) q.stand (λ j. ap (local (args ++ zs)) (omega arith)) (λ j low. hides_rest args j many (omega (arith, low)));
+        }) steady in
+        let y2 = fails_between (Environment l T) e (Known l T) (Unit {0}) tt (λ u g. Known l T e g) (λ g z. z) (λ g z. z) label 1 path y in
+        let r = bodies.fails_body p good typed contracts number f fis n0 h0 args good0 fit e spotted label f.body.items (at_entry p f) 1 (entry_state f) h0 (args ++ zs) fits (entry_sorted f) m y2 in
+        ok f fis n0 h0 args good0 fit requires (subst (λ o. FailsBodyBy p (given.x p good typed contracts number f fis n0 h0 args good0 fit) f (Lazily p T) label f.body.items 1 h0 (begin_with o (given.x p good typed contracts number f fis n0 h0 args good0 fit)).locals) (sym fis) r)
+
+    thread_valid : IsPlain path → LocalOk p number label → IsValidAt (Environment l T) (Holds l T) label 1 (function_conditions p (Some f))
+    thread_valid along ok =
+        let lazy_ok = (lazy_runs_suffice p number label).1 ok in
+        subst (λ cs. IsValidAt (Environment l T) (Holds l T) label 1 cs) (sym (run_conditions p f))
+        (valid_unless l T label 1 (conditions known path) (λ e y. fails_there l T label 1 known path along e y (λ z. run_fails lazy_ok e z.0 z.1)))
+
+-- where no local run of a plain function fails a check, the check's condition is valid
+pub check_valid : (p : Program) → Annotated p → WellTyped p → Scoped p → ConversionsAreReceived p → ((ty : ℕ) → SetFits p (struct_of p ty))
+    → (number label : ℕ) (f : FunctionInfo) → slice_get p.functions.items number ≡ Some f → is_plain f ≡ true → LocalOk p number label → CheckIsValid p number label
+check_valid p good typed scoped received sets number label f fis plain ok =
+    let contracts = contract_fits p good typed in
+    let said = body_said p good number f fis f.body.items plain (text_said p f good sets number fis) in
+    let fits = body_fits p typed scoped received number f fis (PlainActs p good number f fis) (Specs p good number f fis) (WrapText p f) said (entry_spot p f) in
+    subst (λ g. ValidAt (language_of p) label 1 (function_conditions p g)) (sym fis)
+    (all_threads (language_of p) label 1 (function_conditions p (Some f)) (λ n0. thread_valid p good typed contracts number f fis fits n0 label (plain_body p (entry_spot p f) f f.body.items (entry_state f) plain) ok))
