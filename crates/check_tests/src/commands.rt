@@ -8,7 +8,7 @@ use vcc_base::memory::{MemSink, MemStore};
 use vcc_base::sink::{Sink, SinkFault};
 use vcc_cli::vcc_main;
 
-const EMPTY: &str = "void main() {}";
+pub const EMPTY: &str = "void main() {}";
 
 const NO_CONDITIONS: &str = "vcc-cert 1\nconditions 0\nend\n";
 
@@ -68,10 +68,46 @@ const ROWS: &[(&str, &str, &str, u8)] = &[
     (TYPING, NONE_CERT, "source 11:6: rule 1\n", 3),
 ];
 
-const USAGE: &str = "usage: vcc check SOURCE CERT, run SOURCE SCHEDULE\n";
+const USAGE: &str =
+    "usage: vcc check SOURCE CERT, verify SOURCE CERT [--leaves N] [--rounds N], run SOURCE SCHEDULE\n";
 
 /// Names with the texts that they hold.
-type Held<'a> = &'a [(&'a str, &'a str)];
+pub type Held<'a> = &'a [(&'a str, &'a str)];
+
+/// The words, each in memory of its own.
+fn owned(alloc: Global, words: &[&str]) -> Result<Vec<String>, AllocError> {
+    let mut owned = Vec::new(alloc);
+    for word in words {
+        owned.push(String::from_str(alloc, word)?)?;
+    }
+    Ok(owned)
+}
+
+/// What the command `words` prints, and its status, over this store, where the sink calls with these numbers fail.
+pub fn command(
+    alloc: Global,
+    words: &[&str],
+    store: &mut MemStore,
+    sink_fails: &[u64],
+) -> Result<(String, u8), AllocError> {
+    let words = owned(alloc, words)?;
+    let mut out = MemSink::new(alloc, sink_fails.to_vec(alloc)?);
+    let status = vcc_main(alloc, &words, store, &mut out);
+    let mut text = String::new(alloc);
+    for byte in out.bytes() {
+        text.push(char::from(*byte))?;
+    }
+    Ok((text, status))
+}
+
+/// A store in which these names hold these texts, and of which the calls with these numbers fail.
+pub fn holding(alloc: Global, held: Held<'_>, fails: &[u64]) -> Result<MemStore, AllocError> {
+    let mut store = MemStore::new(alloc, fails.to_vec(alloc)?);
+    for (name, text) in held {
+        store.hold(name, text.as_bytes())?;
+    }
+    Ok(store)
+}
 
 /// What the command `words` prints, and its status, where these names hold these texts, and the store calls and the sink
 /// calls with these numbers fail.
@@ -82,25 +118,12 @@ fn run(
     store_fails: &[u64],
     sink_fails: &[u64],
 ) -> Result<(String, u8), AllocError> {
-    let mut owned = Vec::new(alloc);
-    for word in words {
-        owned.push(String::from_str(alloc, word)?)?;
-    }
-    let mut store = MemStore::new(alloc, store_fails.to_vec(alloc)?);
-    for (name, text) in held {
-        store.hold(name, text.as_bytes())?;
-    }
-    let mut out = MemSink::new(alloc, sink_fails.to_vec(alloc)?);
-    let status = vcc_main(alloc, &owned, &mut store, &mut out);
-    let mut text = String::new(alloc);
-    for byte in out.bytes() {
-        text.push(char::from(*byte))?;
-    }
-    Ok((text, status))
+    let mut store = holding(alloc, held, store_fails)?;
+    command(alloc, words, &mut store, sink_fails)
 }
 
 /// The words of a check.
-const CHECK: &[&str] = &["check", "s.c", "C"];
+pub const CHECK: &[&str] = &["check", "s.c", "C"];
 
 /// These words print this line, with this status, where these names hold these texts.
 fn print(rt: &impl Abort, alloc: Global, words: &[&str], held: Held<'_>, line: &str, status: u8) {
@@ -167,7 +190,31 @@ const NO_COMMANDS: &[&[&str]] = &[
     &["run", "", "C"],
     &["run", "s.c", ""],
     &["Run", "s.c", "C"],
-    &["verify", "s.c", "C"],
+    &["verify"],
+    &["verify", "s.c"],
+    &["verify", "s.c", "s.c"],
+    &["verify", "s.c", "C", "x"],
+    &["verify", "s.c", ""],
+    &["verify", "s.c", "-C"],
+    &["verify", "s.c", "C", "--leaves"],
+    &["verify", "s.c", "C", "--leaves", ""],
+    &["verify", "s.c", "C", "--leaves="],
+    &["verify", "s.c", "C", "--leaves", "0"],
+    &["verify", "s.c", "C", "--leaves=1000001"],
+    &["verify", "s.c", "C", "--leaves", "01"],
+    &["verify", "s.c", "C", "--leaves", "+1"],
+    &["verify", "s.c", "C", "--leaves", "1x"],
+    &["verify", "s.c", "C", "--leaves", "99999999999999999999"],
+    &["verify", "s.c", "C", "--rounds", "1001"],
+    &["verify", "s.c", "C", "--rounds=-1"],
+    &["verify", "s.c", "C", "--rounds", "--leaves", "5"],
+    &["verify", "s.c", "C", "--leaves=5", "--leaves", "5"],
+    &["verify", "s.c", "C", "--rounds=5", "--rounds=5"],
+    &["verify", "s.c", "C", "--depth", "5"],
+    &["verify", "s.c", "C", "-l", "5"],
+    &["verify", "--", "s.c", "C"],
+    &["Verify", "s.c", "C"],
+    &["check", "s.c", "C", "--leaves", "5"],
     &["check", "", "C"],
     &["check", "s.c", ""],
     &["check", "-s.c", "C"],
@@ -254,13 +301,8 @@ impl Sink for Narrow {
 
 /// What a check of the empty source writes to such a sink, and its status.
 fn narrowly(alloc: Global) -> Result<(Vec<u8>, u8), AllocError> {
-    let mut words = Vec::new(alloc);
-    for word in CHECK {
-        words.push(String::from_str(alloc, word)?)?;
-    }
-    let mut store = MemStore::new(alloc, Vec::new(alloc));
-    store.hold("s.c", EMPTY.as_bytes())?;
-    store.hold("C", NO_CONDITIONS.as_bytes())?;
+    let words = owned(alloc, CHECK)?;
+    let mut store = holding(alloc, BOTH, &[])?;
     let mut out = Narrow {
         written: Vec::new(alloc),
         calls: 0,

@@ -1,6 +1,8 @@
-//! Tests of the command `check`, apart from its crate: a crate with tests is proved twice.
+//! Tests of the commands `check` and `verify`, apart from its crate: a crate with tests is proved twice.
 #![tactic(auto)]
 
+#[cfg(test)]
+mod answers;
 #[cfg(test)]
 mod approvals;
 #[cfg(test)]
@@ -8,7 +10,11 @@ mod certificates;
 #[cfg(test)]
 mod commands;
 #[cfg(test)]
+mod gallery;
+#[cfg(test)]
 mod rows;
+#[cfg(test)]
+mod searches;
 #[cfg(test)]
 mod sources;
 #[cfg(test)]

@@ -6,5 +6,7 @@ pub mod Checking
 pub mod Verdicts
 pub mod Accepting
 pub mod Runs
+pub mod Searching
+pub mod Commands
 pub mod Replaying
 pub mod Printed

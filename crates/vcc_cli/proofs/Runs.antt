@@ -2,7 +2,7 @@
 use Rattle.std.specs.Prelude.{codes}
 use Rattle.std.proofs.Common.{◌≡◌, ℕ, ◌≤◌, List, [], ◌∷◌, sym, ◌∙◌, subst, Some}
 use Rattle.vcc_base.specs.Maps.{Map}
-use Rattle.vcc_cli.specs.Command.{IsCheck}
+use Rattle.vcc_words.specs.Words.{IsCheck}
 use Rattle.vcc_cli.specs.Accepts.{HoldsSafe, IsAcceptable, IsAccepted, IsCheckOf, SourceIsSafe}
 use Rattle.vcc_cli.specs.Ends.{GetsYes}
 use Rattle.vcc_cli.specs.Lines.{Written}

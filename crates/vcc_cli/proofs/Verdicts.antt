@@ -47,6 +47,10 @@ is_yes answer w status (inr (inr wanting)) zeroed = let eight : status ≡ 8 = w
 pub no_refusal : (answer : Result Verdict Refusal) (r : Refusal) → answer ≡ Ok Yes → answer ≡ Err r → ⊥
 no_refusal answer r is e = let both : Ok Yes ≡ Err r = sym is ∙ e in cc both
 
+-- what is reported with status 0 is no refusal
+pub no_zero : (r : Refusal) (w : Written) (status : ℕ) → IsReported (Err r) w status → status ≡ 0 → ⊥
+no_zero r w status reported zeroed = no_refusal (Err r) r (is_yes (Err r) w status reported zeroed) refl
+
 -- ---- where all is accepted
 
 -- yes, out of memory, too many terms, or a read fault

@@ -1,24 +1,73 @@
--- The words of a command.
-use Rattle.std.proofs.Common.{◌≡◌, ℕ, true, List, [], ◌∷◌, length, get_or, sym, subst, ◌∙◌, arith}
-use Rattle.std.specs.Str.{bytes_eq}
-use Rattle.std.proofs.lemmas.Slice.Eq.{bytes_eq-Decides}
-use Rattle.vcc_cli.specs.Command.{IsName, IsNamedPair}
+-- The words of one command are those of no other, and name its names once.
+use Rattle.std.proofs.Common.{◌≡◌, ℕ, ◌+◌, Bool, true, false, ◌==◌, if◌then◌else◌, List, [], ◌∷◌, ◌++◌, length, flat_map, codes, decimal, slice_index, refl, ap, sym, ◌∙◌, subst, ne_eqb, arith}
+use Rattle.std.proofs.lemmas.List.{length-append}
+use Rattle.vcc_words.specs.Words.{IsName, IsCheck, IsVerify, IsRunCommand, Part, Name, Leaves, LeavesIs, Rounds, RoundsIs, spelling, names}
 
-pub three : {X : Type 0} (xs : List X) (a b c : X) → length xs ≡ 3 → a ≡ get_or xs 0 a → b ≡ get_or xs 1 b → c ≡ get_or xs 2 c → xs ≡ a ∷ b ∷ c ∷ []
-three [] a b c n p q r = absurd (omega arith)
-three (x ∷ []) a b c n p q r = absurd (omega arith)
-three (x ∷ y ∷ []) a b c n p q r = absurd (omega arith)
-three (x ∷ y ∷ z ∷ []) a b c n p q r = cc
-three (x ∷ y ∷ z ∷ w ∷ xs) a b c n p q r = absurd (omega arith)
+-- ---- no two commands
 
--- the command's word, and the names behind it
-pub pair_parts : (xs : List (List ℕ)) (command word first second a b : List ℕ) → xs ≡ word ∷ a ∷ b ∷ [] → IsNamedPair command xs first second → (word ≡ command) × IsName a × IsName b
-pair_parts xs command word first second a b e pair =
-    let same : command ∷ first ∷ second ∷ [] ≡ word ∷ a ∷ b ∷ [] = sym pair.are ∙ e in
-    let one : first ≡ a = cc in
-    let two : second ≡ b = cc in
-    let word_is : word ≡ command = cc in
-    (word_is, subst IsName one pair.first_name, subst IsName two pair.second_name)
+-- how long the first word is
+first_length : List (List ℕ) → ℕ
+first_length [] = 0
+first_length (word ∷ words) = length word
 
-pub same_bytes : (xs ys : List ℕ) → xs ≡ ys → bytes_eq xs ys ≡ true
-same_bytes xs ys e = (bytes_eq-Decides xs ys).1 e
+pub check_or_verify : (words : List (List ℕ)) (source cert a b : List ℕ) (leaves rounds : ℕ) → IsCheck words source cert → IsVerify words a b leaves rounds → ⊥
+unfolding first_length
+check_or_verify words source cert a b leaves rounds check verify =
+    let both : 5 ≡ 6 = sym (ap first_length check.are) ∙ ap first_length verify.are in
+    omega (arith, both)
+
+pub check_or_run : (words : List (List ℕ)) (source cert a b : List ℕ) → IsCheck words source cert → IsRunCommand words a b → ⊥
+unfolding first_length
+check_or_run words source cert a b check run =
+    let both : 5 ≡ 3 = sym (ap first_length check.are) ∙ ap first_length run.are in
+    omega (arith, both)
+
+pub verify_or_run : (words : List (List ℕ)) (source cert a b : List ℕ) (leaves rounds : ℕ) → IsVerify words source cert leaves rounds → IsRunCommand words a b → ⊥
+unfolding first_length
+verify_or_run words source cert a b leaves rounds verify run =
+    let both : 6 ≡ 3 = sym (ap first_length verify.are) ∙ ap first_length run.are in
+    omega (arith, both)
+
+-- ---- the names of a verify
+
+-- the names among words, of which the first may be an option's number
+named : Bool → List (List ℕ) → List (List ℕ)
+named number [] = []
+named true (word ∷ words) = named false words
+named false (word ∷ words) = if slice_index word 0 == 45 then named (length word == 8) words else (word ∷ named false words)
+
+-- each is a name
+AreNames : List (List ℕ) → Type 0
+AreNames [] = Unit {0}
+AreNames (word ∷ words) = IsName word × AreNames words
+
+one_word : (option : List ℕ) (n : ℕ) (words : List (List ℕ)) → slice_index (option ++ decimal n) 0 ≡ 45 → length option ≡ 9 → named false ((option ++ decimal n) ∷ words) ≡ named false words
+unfolding named
+one_word option n words dash nine =
+    let long : length (option ++ decimal n) ≡ length option + length (decimal n) = length-append option (decimal n) in
+    rw (dash, ne_eqb (length (option ++ decimal n)) 8 (omega (arith, long, nine))) refl
+
+names_read : (ps : List Part) → AreNames (names ps) → named false (flat_map spelling ps) ≡ names ps
+unfolding named AreNames
+names_read [] all = refl
+names_read (Name word ∷ ps) all = rw (ne_eqb (slice_index word 0) 45 all.0.1) (ap (λ (words : List (List ℕ)). word ∷ words) (names_read ps all.1))
+names_read (Leaves n ∷ ps) all = names_read ps all
+names_read (LeavesIs n ∷ ps) all = one_word (codes "--leaves=") n (flat_map spelling ps) refl refl ∙ names_read ps all
+names_read (Rounds n ∷ ps) all = names_read ps all
+names_read (RoundsIs n ∷ ps) all = one_word (codes "--rounds=") n (flat_map spelling ps) refl refl ∙ names_read ps all
+
+-- the words behind the first
+behind : List (List ℕ) → List (List ℕ)
+behind [] = []
+behind (word ∷ words) = words
+
+names_of : (words : List (List ℕ)) (source cert : List ℕ) (leaves rounds : ℕ) → IsVerify words source cert leaves rounds → named false (behind words) ≡ source ∷ cert ∷ []
+unfolding AreNames behind
+names_of words source cert leaves rounds verify =
+    let all : AreNames (names verify.parts) = subst AreNames (sym verify.named) (verify.source_name, (verify.cert_name, tt)) in
+    ap (λ (ws : List (List ℕ)). named false (behind ws)) verify.are ∙ (names_read verify.parts all ∙ verify.named)
+
+pub one_verify : (words : List (List ℕ)) (source cert a b : List ℕ) (leaves rounds n k : ℕ) → IsVerify words source cert leaves rounds → IsVerify words a b n k → (source ≡ a) × (cert ≡ b)
+one_verify words source cert a b leaves rounds n k one other =
+    let both : source ∷ cert ∷ [] ≡ a ∷ b ∷ [] = sym (names_of words source cert leaves rounds one) ∙ names_of words a b n k other in
+    (cc both, cc both)

@@ -1,5 +1,5 @@
 -- When a source and a certificate are accepted, and what that means. From proof-carrying code (Necula 1997): who receives a program with a certificate checks the one by the other.
-use Rattle.std.specs.Prelude.{◌≡◌, ℕ, ◌≤◌, List, length, Some}
+use Rattle.std.specs.Prelude.{◌≡◌, ℕ, ◌≤◌, List, length, Option, Some}
 use Rattle.c_syntax.specs.declared.token.Span.{Span}
 use Rattle.c_syntax.specs.Items.{Item}
 use Rattle.typing_spec.specs.First.{IsWellTyped}
@@ -13,7 +13,7 @@ use Rattle.vcc_judge.specs.Verdicts.{IsVerified}
 use Rattle.vcc_base.specs.Maps.{Map}
 use Rattle.vcc_base.specs.Limits.{number_of}
 use Rattle.vcc_base.specs.declared.limit.Limit.TheVariants.{SourceBytes, CertBytes, Conditions}
-use Rattle.vcc_cli.specs.Command.{IsCheck}
+use Rattle.vcc_words.specs.Words.{IsCheck}
 
 -- The source reads as a program, the certificate is well formed, and each condition of the program follows by its block.
 pub record Accepts (source cert : List ℕ) : Type 0 where
@@ -78,3 +78,10 @@ pub record IsAccepted (m : Map) (words : List (List ℕ)) : Type 0 where
   pub cert : List ℕ
   pub check : IsCheckOf m words source cert
   pub accepts : Accepts source cert
+
+-- What a verify that ends with yes leaves: the two names hold a source and a certificate that are accepted, and the source is safe.
+pub record LeavesAccepted (now : Option Map) (source_name cert_name : List ℕ) : Type 0 where
+  pub holds : Map
+  pub told : now ≡ Some holds
+  pub accepted : HoldAccepted holds source_name cert_name
+  pub is_safe : HoldsSafe holds source_name

@@ -20,7 +20,7 @@ use Rattle.vcc_cli.specs.declared.refusal.Refusal.TheVariants.{BadCertificate, C
 use Rattle.vcc_cli.specs.declared.verdict.Verdict.{Verdict}
 use Rattle.vcc_cli.specs.declared.verdict.Verdict.TheVariants.{Yes, No}
 use Rattle.vcc_cli.specs.Held.{HoldsProgram, HoldsWithin, IsSourceStop, IsUnread}
-use Rattle.vcc_cli.specs.Names.{item_name}
+use Rattle.check_labels.specs.Names.{item_name}
 
 -- ---- the number of conditions
 

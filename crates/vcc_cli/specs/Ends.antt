@@ -1,17 +1,42 @@
 -- What the words come to.
-use Rattle.std.specs.Prelude.{◌≡◌, ◌⊎◌, ℕ, List, Err}
+use Rattle.std.specs.Prelude.{◌≡◌, ◌≢◌, ◌⊎◌, ℕ, List, Option, Err}
 use Rattle.vcc_base.specs.Maps.{Map, NowWritten}
 use Rattle.vcc_base.specs.declared.limit.Limit.TheVariants.{Terms}
-use Rattle.vcc_cli.specs.declared.refusal.Refusal.TheVariants.{Usage, Limit}
-use Rattle.vcc_cli.specs.Command.{IsCheck, IsRunCommand}
+use Rattle.vcc_words.specs.declared.command.Command.{Command}
+use Rattle.vcc_words.specs.declared.command.Command.TheVariants.{Check, Verify, Run}
+use Rattle.vcc_words.specs.Words.{IsCheck, IsNoCommand}
+use Rattle.vcc_cli.specs.Accepts.{HoldsSafe, LeavesAccepted}
+use Rattle.vcc_cli.specs.declared.refusal.Refusal.TheVariants.{Usage, Limit, OutOfMemory}
 use Rattle.vcc_cli.specs.Lines.{Written, IsReported, line_of}
 use Rattle.vcc_cli.specs.Run.{ReadCounts, IsChecked}
-use Rattle.vcc_cli.specs.Replays.{IsRunOf}
+use Rattle.vcc_cli.specs.Replays.{IsRunOf, IsRunOfNames}
+use Rattle.vcc_cli.specs.Searches.{Stored, IsVerifyOf, IsVerifyOfNames}
+
+-- ---- a command
+
+-- what a command prints, what it leaves in the store, and its status, are those of its names
+abbrev pub Ends : Map → Command → ReadCounts → Stored → Written → ℕ → Type 0
+Ends m (Check pair) reads s w status = IsChecked m pair.source.now pair.other.now reads w status
+Ends m (Verify search) reads s w status = IsVerifyOfNames m search.source.now search.cert.now reads s w status
+Ends m (Run pair) reads s w status = IsRunOfNames m pair.source.now pair.other.now reads w status
+
+-- what status 0 shows: the source is safe; and of a verify, of two names, that the store then holds a certificate by which it is accepted
+abbrev pub Shows : Map → Command → Option Map → Type 0
+Shows m (Check pair) now = HoldsSafe m pair.source.now
+Shows m (Verify search) now = search.source.now ≢ search.cert.now → LeavesAccepted now search.source.now search.cert.now
+Shows m (Run pair) now = Unit {0}
+
+-- a check and a run change nothing in the store
+abbrev pub Keeps : Command → Option Map → Option Map → Type 0
+Keeps (Check pair) before after = after ≡ before
+Keeps (Verify search) before after = Unit {0}
+Keeps (Run pair) before after = after ≡ before
+
+-- ---- its words
 
 -- the words are no command, and that is reported
-pub record IsNoCommand (words : List (List ℕ)) (w : Written) (status : ℕ) : Type 0 where
-  pub no_check : (source cert : List ℕ) → IsCheck words source cert → ⊥
-  pub no_run : (source schedule : List ℕ) → IsRunCommand words source schedule → ⊥
+pub record IsRefused (words : List (List ℕ)) (w : Written) (status : ℕ) : Type 0 where
+  pub none : IsNoCommand words
   pub reported : IsReported (Err Usage) w status
 
 -- The words are a check, and what it prints and its status are those of its names.
@@ -21,9 +46,9 @@ pub record IsCheckedOf (m : Map) (words : List (List ℕ)) (reads : ReadCounts) 
   pub command : IsCheck words source_name cert_name
   pub checked : IsChecked m source_name cert_name reads w status
 
--- What the words come to: no command, a check, or a run.
-abbrev pub EndsWith : Map → List (List ℕ) → ReadCounts → Written → ℕ → Type 0
-EndsWith m words reads w status = IsNoCommand words w status ⊎ IsCheckedOf m words reads w status ⊎ IsRunOf m words reads w status
+-- What the words come to: no command, a check, a run, or a verify; or memory is wanted to read them, which is reported.
+abbrev pub EndsWith : Map → List (List ℕ) → ReadCounts → Stored → Written → ℕ → Type 0
+EndsWith m words reads s w status = IsRefused words w status ⊎ IsCheckedOf m words reads w status ⊎ IsRunOf m words reads w status ⊎ IsVerifyOf m words reads s w status ⊎ IsReported (Err OutOfMemory) w status
 
 -- Yes; or memory was wanted; or the line says that a condition needs too many terms.
 abbrev pub GetsYes : Written → ℕ → Type 0

@@ -1,11 +1,10 @@
-pub mod Command
 pub mod Source
 pub mod Held
-pub mod Names
 pub mod Accepts
 pub mod Checks
 pub mod Faults
 pub mod Lines
 pub mod Run
 pub mod Replays
+pub mod Searches
 pub mod Ends

@@ -6,7 +6,7 @@ use Rattle.typing_spec.specs.Rules.{number}
 use Rattle.typing_expressions.specs.Views.{rule}
 use Rattle.vcc_base.specs.Maps.{NowWritten, FrontWritten}
 use Rattle.vcc_base.specs.Limits.{number_of, name_of}
-use Rattle.schedule_replay.specs.ReplayText.{kind_text}
+use Rattle.vcc_verify.specs.Reports.{label_text}
 use Rattle.vcc_cli.specs.declared.verdict.Failing.{Failing}
 use Rattle.vcc_cli.specs.declared.verdict.Verdict.{Verdict}
 use Rattle.vcc_cli.specs.declared.verdict.Verdict.TheVariants.{Yes, No}
@@ -45,9 +45,13 @@ cert_line n fault = codes "certificate line " ++ (decimal n ++ (codes ": " ++ li
 abbrev pub count_line : BlockCount → List ℕ
 count_line c = codes "certificate: conditions " ++ (decimal c.blocks ++ (codes ", source has " ++ line (decimal c.conditions)))
 
--- the first check whose condition doesn't follow: its item's name, its ordinal there, its kind and its line
+-- a check whose condition doesn't follow: its item's name, its ordinal there, its kind and its line
+abbrev pub label_line : Failing → List ℕ
+label_line f = line (label_text f.name.now f.label.ordinal f.label.kind f.label.line)
+
+-- the line of a check of which this is the first such check
 abbrev pub no_line : Failing → List ℕ
-no_line f = codes "no: " ++ (f.name.now ++ (codes "/" ++ (decimal f.label.ordinal ++ (codes " " ++ (kind_text f.label.kind ++ (codes " line " ++ line (decimal f.label.line)))))))
+no_line f = codes "no: " ++ label_line f
 
 -- a value that would leave 128 bits: the operands of its operation
 abbrev pub wide_line : ℤ → ℤ → List ℕ
@@ -57,7 +61,7 @@ wide_line left right = codes "limit: Wide " ++ (signed_decimal left ++ (codes " 
 abbrev pub line_of : Result Verdict Refusal → List ℕ
 line_of (Ok Yes) = line (codes "yes")
 line_of (Ok (No failing)) = no_line failing
-line_of (Err Usage) = line (codes "usage: vcc check SOURCE CERT, run SOURCE SCHEDULE")
+line_of (Err Usage) = line (codes "usage: vcc check SOURCE CERT, verify SOURCE CERT [--leaves N] [--rounds N], run SOURCE SCHEDULE")
 line_of (Err (BadByte place)) = source_line place (codes "token") 1
 line_of (Err (BadNumber place)) = source_line place (codes "token") 2
 line_of (Err (OpenComment place)) = source_line place (codes "token") 3
@@ -108,7 +112,11 @@ pub record Written : Type 0 where
 abbrev pub wrote : ℕ → ℕ → Option (List ℕ) → Option (List ℕ) → Written
 wrote m n old new = record { faults_before = m; faults_after = n; before = old; after = new }
 
--- The answer's line is written, and the status is its own; or a front of the line is written, and a write failed, with status 7, or memory was wanted, with status 8.
+-- This line is written, and this is the status; or a front of the line is written, and a write failed, with status 7, or memory was wanted, with status 8.
+abbrev pub IsReportedLine : List ℕ → ℕ → Written → ℕ → Type 0
+IsReportedLine text own w status =
+    ((status ≡ own) × NowWritten w.before w.after text) ⊎ ((status ≡ 7) × (w.faults_before < w.faults_after) × FrontWritten w.before w.after text) ⊎ ((status ≡ 8) × FrontWritten w.before w.after text)
+
+-- The answer's line is written, with the answer's status, or a front of it.
 abbrev pub IsReported : Result Verdict Refusal → Written → ℕ → Type 0
-IsReported answer w status =
-    ((status ≡ status_of answer) × NowWritten w.before w.after (line_of answer)) ⊎ ((status ≡ 7) × (w.faults_before < w.faults_after) × FrontWritten w.before w.after (line_of answer)) ⊎ ((status ≡ 8) × FrontWritten w.before w.after (line_of answer))
+IsReported answer w status = IsReportedLine (line_of answer) (status_of answer) w status

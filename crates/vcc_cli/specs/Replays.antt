@@ -17,7 +17,7 @@ use Rattle.vcc_cli.specs.declared.refusal.LineFault.TheVariants.{BadLine, BadNum
 use Rattle.vcc_cli.specs.declared.refusal.Refusal.{Refusal}
 use Rattle.vcc_cli.specs.declared.refusal.Refusal.TheVariants.{BadSchedule, BadArgs, Wide, Exhausted, OutOfMemory}
 use Rattle.vcc_cli.specs.Held.{HoldsProgram, HoldsWithin, IsSourceStop, IsUnread}
-use Rattle.vcc_cli.specs.Command.{IsRunCommand}
+use Rattle.vcc_words.specs.Words.{IsRunCommand}
 use Rattle.vcc_cli.specs.Faults.{IsReadFault}
 use Rattle.vcc_cli.specs.Lines.{Written, IsReported, line, wide_line}
 use Rattle.vcc_cli.specs.Run.{ReadCounts}

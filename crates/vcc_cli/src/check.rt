@@ -7,22 +7,22 @@ ghost use Rattle.term_meaning.specs.Filling.{IsLayered};
 ghost use Rattle.condition_meaning.specs.Languages.{language_of};
 ghost use Rattle.condition_meaning.specs.Promises.{ConditionsAreValid};
 ghost use Rattle.check_labels.specs.Labels.{labels_of};
-ghost use Rattle.vcc_base.specs.Limits.{number_of};
 ghost use Rattle.vcc_base.specs.Maps.{Map};
 ghost use Rattle.vcc_cli.specs.Accepts.{HoldsSafe};
-ghost use Rattle.vcc_cli.specs.Checks.{AreJudged, IsManyOrMemory, IsProgramAnswer};
+ghost use Rattle.vcc_cli.specs.Checks.{AreJudged, IsProgramAnswer};
 ghost use Rattle.vcc_cli.specs.Faults.{IsReadFault};
 ghost use Rattle.vcc_cli.specs.Lines.{wrote};
 ghost use Rattle.vcc_cli.specs.Run.{IsChecked, read_counts};
 
 use crate::certificate::read_certificate;
-use crate::names::item_name;
+use crate::labels::few_labels;
 use crate::program::read_program;
 use crate::refusal::{BlockCount, Refusal};
 use crate::report::report;
 use crate::verdict::{Failing, Verdict};
 use cert_format::certificate::Refutation;
-use check_labels::labels::{ProgramLabel, program_labels};
+use check_labels::labels::ProgramLabel;
+use check_labels::names::item_name;
 use method::program::Program;
 use std::alloc::Global;
 use typed_conditions::laws::{sources_are_annotated, sources_are_safe};
@@ -55,21 +55,6 @@ fn judge_blocks<'a, 'p>(
         Err(JudgeFault::Wide(wide)) => Err(Refusal::Wide(wide)),
         Err(JudgeFault::OutOfMemory) => Err(Refusal::OutOfMemory),
     }
-}
-
-/// The labels of a program that has no more conditions than the limit allows.
-fn few_labels<'a>(alloc: Global, program: &Program) -> Result<Vec<ProgramLabel>, Refusal<'a>>
-    ensures labels { IfOk result (λ ls. labels_of ls.items ≡ spec.program_labels program.now) }
-    ensures few { IfOk result (λ ls. length ls.items ≤ number_of Limit.Conditions) }
-    ensures many { IfErr result (IsManyOrMemory program.now) }
-{
-    let Ok(labels) = program_labels(alloc, program) else {
-        return Err(Refusal::OutOfMemory);
-    };
-    if labels.len() as u64 > Limit::Conditions.number() {
-        return Err(Refusal::Limit(Limit::Conditions));
-    }
-    Ok(labels)
 }
 
 /// The verdict of the certificate with this name over a program.

@@ -3,13 +3,13 @@
 
 pub mod certificate;
 pub mod check;
-pub mod command;
+pub mod labels;
 mod main_call;
-pub mod names;
 pub mod program;
 pub mod refusal;
 pub mod report;
 mod run;
 pub mod verdict;
+mod verify;
 
 pub use main_call::vcc_main;

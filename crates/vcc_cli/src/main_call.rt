@@ -1,25 +1,50 @@
 //! The top call.
 
-ghost use Rattle.std.specs.Prelude.{◌≡◌, ◌⊎◌, ◌≤◌, List, ℕ, Some};
+ghost use Rattle.std.specs.Prelude.{◌≡◌, ◌≤◌, List, ℕ, Some};
 ghost use Rattle.vcc_base.specs.Maps.{Map};
-ghost use Rattle.vcc_cli.specs.Command.{IsCheck, texts};
-ghost use Rattle.vcc_cli.specs.Accepts.{IsAcceptable, IsAccepted, IsCheckOf, SourceIsSafe};
+ghost use Rattle.vcc_words.specs.Words.{IsCheck, IsVerify, texts};
+ghost use Rattle.vcc_cli.specs.Accepts.{IsAcceptable, IsAccepted, IsCheckOf, LeavesAccepted, SourceIsSafe};
 ghost use Rattle.vcc_cli.specs.Lines.{wrote};
 ghost use Rattle.vcc_cli.specs.Run.{read_counts};
-ghost use Rattle.vcc_cli.specs.Ends.{EndsWith, GetsYes};
+ghost use Rattle.vcc_cli.specs.Searches.{stored};
+ghost use Rattle.vcc_cli.specs.Ends.{Ends, EndsWith, GetsYes, Keeps, Shows};
 
 use crate::check::check;
-use crate::command::{check_command, run_command};
 use crate::refusal::Refusal;
 use crate::report::report;
 use crate::run::run;
+use crate::verify::verify;
 use std::alloc::Global;
 use vcc_base::sink::Sink;
 use vcc_base::store::Store;
+use vcc_words::command::Command;
+use vcc_words::read_command;
 
-/// Runs the command that the words are, and gives the status: 0 yes or a clean replay, 1 no or a replay that stops, 2 no
-/// command, 3 source or schedule refused, 4 certificate refused, 5 a limit, 6 a name is missing or a read fault, 7 a write
-/// fault, 8 want of memory.
+/// Runs the command, and gives the status.
+fn run_command<S: Store, O: Sink>(
+    alloc: Global,
+    command: Command<'_>,
+    store: &mut S,
+    out: &mut O,
+) -> u8
+    ensures ends { (m : Map) → S.contents store.old ≡ Some m → Ends m command.entry
+        (read_counts (S.read_faults store.old) (S.read_faults store.new))
+        (stored (S.write_faults store.old) (S.write_faults store.new) (S.contents store.old) (S.contents store.new))
+        (wrote (O.faults out.old) (O.faults out.new) (O.written out.old) (O.written out.new)) result }
+    ensures shows { (m : Map) → S.contents store.old ≡ Some m → result ≡ 0 →
+        Shows m command.entry (S.contents store.new) }
+    ensures keeps { Keeps command.entry (S.contents store.old) (S.contents store.new) }
+{
+    match command {
+        Command::Check(pair) => check(alloc, store, pair.source, pair.other, out),
+        Command::Verify(search) => verify(alloc, store, search, out),
+        Command::Run(pair) => run(alloc, store, pair.source, pair.other, out),
+    }
+}
+
+/// Runs the command that the words are, and gives the status: 0 yes, all verified or a clean replay, 1 no, not all
+/// verified or a replay that stops, 2 no command, 3 source or schedule refused, 4 certificate refused, 5 a limit, 6 a name
+/// is missing or a read fault, 7 a write fault, 8 want of memory.
 pub fn vcc_main<S: Store, O: Sink>(
     alloc: Global,
     words: &[String],
@@ -37,26 +62,32 @@ pub fn vcc_main<S: Store, O: Sink>(
         (source cert : List ℕ) → IsAcceptable source cert → IsCheckOf m (texts words.now) source cert →
         S.read_faults store.new ≤ S.read_faults store.old → O.faults out.new ≤ O.faults out.old →
         GetsYes (wrote (O.faults out.old) (O.faults out.new) (O.written out.old) (O.written out.new)) result }
+    // Where a verify ends with yes, the store holds a certificate by which the source is accepted, and the source is
+    // safe.
+    ensures verified { (m : Map) → S.contents store.old ≡ Some m → (source cert : List ℕ) (leaves rounds : ℕ) →
+        IsVerify (texts words.now) source cert leaves rounds → result ≡ 0 →
+        LeavesAccepted (S.contents store.new) source cert }
     // Each answer, its line and its status are those of the words; a read or a write fault only where one happened.
     ensures exact { (m : Map) → S.contents store.old ≡ Some m → EndsWith m (texts words.now)
         (read_counts (S.read_faults store.old) (S.read_faults store.new))
+        (stored (S.write_faults store.old) (S.write_faults store.new) (S.contents store.old) (S.contents store.new))
         (wrote (O.faults out.old) (O.faults out.new) (O.written out.old) (O.written out.new)) result }
-    ensures kept { S.contents store.new ≡ S.contents store.old }
+    // Only a verify changes what the store holds.
+    ensures kept { ((source cert : List ℕ) (leaves rounds : ℕ) → IsVerify (texts words.now) source cert leaves rounds → ⊥) →
+        S.contents store.new ≡ S.contents store.old }
 {
-    match check_command(words) {
-        Some((source, cert)) => {
-            let status = check(alloc, store, source, cert, out);
+    match read_command(alloc, words) {
+        Ok(Some(command)) => {
+            let status = run_command(alloc, command, store, out);
             status
         }
-        None => match run_command(words) {
-            Some((source, schedule)) => {
-                let status = run(alloc, store, source, schedule, out);
-                status
-            }
-            None => {
-                let status = report(out, Err(Refusal::Usage));
-                status
-            }
-        },
+        Ok(None) => {
+            let status = report(out, Err(Refusal::Usage));
+            status
+        }
+        Err(_) => {
+            let status = report(out, Err(Refusal::OutOfMemory));
+            status
+        }
     }
 }

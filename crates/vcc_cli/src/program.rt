@@ -33,6 +33,7 @@ pub fn read<'a, S: Store>(
     ensures within { IfOk result (λ v. length v.items ≤ number_of limit) }
     ensures fault { IsReadFault result → S.read_faults store.old < S.read_faults store.new }
     ensures never_falls { S.read_faults store.old ≤ S.read_faults store.new }
+    ensures writes_stay { S.write_faults store.new ≡ S.write_faults store.old }
     ensures kept { S.contents store.new ≡ S.contents store.old }
 {
     match read_whole(alloc, store, name, limit) {
@@ -100,6 +101,7 @@ pub fn read_program<'a, S: Store>(
         MatchResult result (HoldsProgram m name.entry.now) (IsSourceStop m name.entry.now) }
     ensures fault { IsReadFault result → S.read_faults store.old < S.read_faults store.new }
     ensures never_falls { S.read_faults store.old ≤ S.read_faults store.new }
+    ensures writes_stay { S.write_faults store.new ≡ S.write_faults store.old }
     ensures kept { S.contents store.new ≡ S.contents store.old }
 {
     match read(alloc, store, name, Limit::SourceBytes) {

@@ -11,12 +11,12 @@ ghost use Rattle.vcc_cli.specs.Lines.{IsReported, cert_line, count_line, fault_n
 use crate::refusal::{BlockCount, LineFault, Refusal};
 use crate::verdict::{Failing, Verdict};
 use c_syntax::token::Span;
-use schedule_replay::lines::kind_name;
 use schedule_replay::put::{Piece, put_line};
 use typing_expressions::violations::Violation;
 use vcc_base::limit::Limit;
 use vcc_base::sink::{Sink, SinkFault};
 use vcc_base::whole::put_all;
+use vcc_verify::lines::put_label;
 
 /// The line of a check that doesn't follow.
 fn put_no<O: Sink>(out: &mut O, failing: Failing<'_>) -> Result<(), SinkFault>
@@ -25,24 +25,12 @@ fn put_no<O: Sink>(out: &mut O, failing: Failing<'_>) -> Result<(), SinkFault>
     ensures failed { IsErrOf result SinkFault.Failed → O.faults out.old < O.faults out.new }
     ensures never_falls { O.faults out.old ≤ O.faults out.new }
 {
-    put_line(
-        out,
-        &[
-            Piece::Text(b"no: "),
-            Piece::Text(failing.name),
-            Piece::Text(b"/"),
-            Piece::Count(failing.label.ordinal as u64),
-            Piece::Text(b" "),
-            Piece::Text(kind_name(failing.label.kind)),
-            Piece::Text(b" line "),
-            Piece::Natural(failing.label.line),
-            Piece::Text(b"\n"),
-        ],
-    )
+    put_all(out, b"no: ")?;
+    put_label(out, failing.name, failing.label)
 }
 
 /// A line of a word and a name.
-fn put_named<'a, O: Sink>(out: &mut O, word: &'a [u8], name: &'a str) -> Result<(), SinkFault>
+pub fn put_named<'a, O: Sink>(out: &mut O, word: &'a [u8], name: &'a str) -> Result<(), SinkFault>
     ensures ok { Writes result (O.written out.old) (O.written out.new) (word.now ++ line name.now) }
     ensures err { Front result (O.written out.old) (O.written out.new) (word.now ++ line name.now) }
     ensures failed { IsErrOf result SinkFault.Failed → O.faults out.old < O.faults out.new }
@@ -60,8 +48,10 @@ fn put_named<'a, O: Sink>(out: &mut O, word: &'a [u8], name: &'a str) -> Result<
 
 /// The line of a limit.
 fn put_limit<O: Sink>(out: &mut O, limit: Limit) -> Result<(), SinkFault>
-    ensures ok { Writes result (O.written out.old) (O.written out.new) (codes "limit: " ++ (name_of limit ++ (codes " " ++ line (decimal (number_of limit))))) }
-    ensures err { Front result (O.written out.old) (O.written out.new) (codes "limit: " ++ (name_of limit ++ (codes " " ++ line (decimal (number_of limit))))) }
+    ensures ok { Writes result (O.written out.old) (O.written out.new)
+        (codes "limit: " ++ (name_of limit ++ (codes " " ++ line (decimal (number_of limit))))) }
+    ensures err { Front result (O.written out.old) (O.written out.new)
+        (codes "limit: " ++ (name_of limit ++ (codes " " ++ line (decimal (number_of limit))))) }
     ensures failed { IsErrOf result SinkFault.Failed → O.faults out.old < O.faults out.new }
     ensures never_falls { O.faults out.old ≤ O.faults out.new }
 {
@@ -191,8 +181,10 @@ fn put_fault<O: Sink>(out: &mut O, place: Span, stage: &[u8], number: u64) -> Re
 
 /// The line of a broken typing rule: its place and its number.
 fn put_broken<O: Sink>(out: &mut O, broken: Violation) -> Result<(), SinkFault>
-    ensures ok { OnOk result (NowWritten (O.written out.old) (O.written out.new) (source_line broken.span (codes "rule") (number_of_rule (rule broken.rule)))) }
-    ensures err { OnErr result (FrontWritten (O.written out.old) (O.written out.new) (source_line broken.span (codes "rule") (number_of_rule (rule broken.rule)))) }
+    ensures ok { OnOk result (NowWritten (O.written out.old) (O.written out.new)
+        (source_line broken.span (codes "rule") (number_of_rule (rule broken.rule)))) }
+    ensures err { OnErr result (FrontWritten (O.written out.old) (O.written out.new)
+        (source_line broken.span (codes "rule") (number_of_rule (rule broken.rule)))) }
     ensures failed { IsErrOf result SinkFault.Failed → O.faults out.old < O.faults out.new }
     ensures never_falls { O.faults out.old ≤ O.faults out.new }
 {
@@ -208,11 +200,15 @@ fn put_answer<O: Sink>(
     ensures ok { OnOk result (NowWritten (O.written out.old) (O.written out.new) (line_of answer.entry)) }
     ensures err { OnErr result (FrontWritten (O.written out.old) (O.written out.new) (line_of answer.entry)) }
     ensures failed { IsErrOf result SinkFault.Failed → O.faults out.old < O.faults out.new }
+    ensures never_falls { O.faults out.old ≤ O.faults out.new }
 {
     match answer {
         Ok(Verdict::Yes) => put_all(out, b"yes\n"),
         Ok(Verdict::No(failing)) => put_no(out, failing),
-        Err(Refusal::Usage) => put_all(out, b"usage: vcc check SOURCE CERT, run SOURCE SCHEDULE\n"),
+        Err(Refusal::Usage) => put_all(
+            out,
+            b"usage: vcc check SOURCE CERT, verify SOURCE CERT [--leaves N] [--rounds N], run SOURCE SCHEDULE\n",
+        ),
         Err(Refusal::BadByte(place)) => put_fault(out, place, b"token", 1),
         Err(Refusal::BadNumber(place)) => put_fault(out, place, b"token", 2),
         Err(Refusal::OpenComment(place)) => put_fault(out, place, b"token", 3),
@@ -263,6 +259,7 @@ fn status(answer: Result<Verdict<'_>, Refusal<'_>>) -> u8
 pub fn report<O: Sink>(out: &mut O, answer: Result<Verdict<'_>, Refusal<'_>>) -> u8
     ensures reported { IsReported answer.entry
         (wrote (O.faults out.old) (O.faults out.new) (O.written out.old) (O.written out.new)) result }
+    ensures never_falls { O.faults out.old ≤ O.faults out.new }
 {
     match put_answer(out, answer) {
         Ok(()) => status(answer),

@@ -1,0 +1,5 @@
+pub mod Words
+pub mod Pieces
+pub mod Walk
+pub mod Parts
+pub mod Counts

@@ -1,0 +1,10 @@
+//! The words of a command line.
+#![tactic(auto)]
+
+mod arguments;
+pub mod command;
+mod names;
+mod read;
+mod search;
+
+pub use read::read_command;
