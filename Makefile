@@ -18,10 +18,13 @@ build:
 	cd crates/vcc && rt all check --jobs $(CORES)
 	cd crates/vcc && rt run -- check $(EXAMPLES)/lock.c $(EXAMPLES)/lock.cert
 
-# Puts the program that `make build` makes into PREFIX/bin.
+# Puts the program that `make build` makes, its manual page, the pages for its users and the examples below PREFIX.
 install: build
-	mkdir -p $(PREFIX)/bin
-	cp crates/vcc/out/vcc $(PREFIX)/bin/vcc
+	install -D crates/vcc/out/vcc $(PREFIX)/bin/vcc
+	install -D -m 644 docs/vcc.1 $(PREFIX)/share/man/man1/vcc.1
+	install -d $(PREFIX)/share/doc/vcc $(PREFIX)/share/vcc
+	install -m 644 docs/*.md $(PREFIX)/share/doc/vcc
+	cp -R examples $(PREFIX)/share/vcc/
 
 # Every proof, test, program and must-fail edit from nothing, and the repository's own checks.
 test:
