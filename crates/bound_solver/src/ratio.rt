@@ -98,6 +98,17 @@ impl Ratio {
         self.bottom
     }
 
+    /// The greatest whole number that isn't above it.
+    pub fn floor(self) -> i128 {
+        let Some(whole) = self.top.checked_div(self.bottom) else {
+            return self.top;
+        };
+        if self.top < 0 && self.bottom > 1 {
+            return whole.saturating_sub(1);
+        }
+        whole
+    }
+
     /// Whether it is 0.
     pub fn is_zero(self) -> bool {
         self.top == 0

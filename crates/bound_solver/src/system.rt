@@ -70,12 +70,23 @@ impl Values {
         }
     }
 
+    /// The first unit whose value isn't whole.
+    pub fn first_gap(&self) -> Option<u32> {
+        for unit in self.units.as_slice() {
+            if self.of(*unit).bottom() > 1 {
+                return Some(*unit);
+            }
+        }
+        None
+    }
+
     /// A number above 0 that the denominator of each value divides.
     pub fn denominator(&self) -> Result<i128, Stop> {
         common_multiple(self.values.as_slice())
     }
 
-    fn sum(&self, parts: &[Monomial], constant: i128) -> Result<Ratio, Stop> {
+    /// The sum of the parts and the constant.
+    pub fn sum(&self, parts: &[Monomial], constant: i128) -> Result<Ratio, Stop> {
         let mut sum = Ratio::whole(constant);
         for part in parts {
             let product = Ratio::whole(part.factor).times(self.of(part.unit))?;

@@ -53,10 +53,14 @@ pub struct Solver<'a> {
     row: usize,
     leaves: u32,
     since: u32,
+    gaps: u32,
 }
 
 /// How many leaves are looked at before the search begins anew.
 const PATIENCE: u32 = 300;
+
+/// How many splits there are at most of values that aren't whole.
+const MOST_GAPS: u32 = 64;
 
 impl<'a> Solver<'a> {
     /// No terms and no clauses.
@@ -78,6 +82,7 @@ impl<'a> Solver<'a> {
             row: 0,
             leaves: 0,
             since: 0,
+            gaps: 0,
         }
     }
 
@@ -126,7 +131,24 @@ impl<'a> Solver<'a> {
         literals: &[Literal],
     ) -> Result<(), AllocError> {
         let step = self.ledger.steps.push(rule, numbers, literals)?;
+        let step = self.without_copies(step, literals)?;
         self.attach(step, true)
+    }
+
+    /// The step whose clause has each of a step's literals once, since a chain can't take one that stands twice.
+    fn without_copies(&mut self, step: u32, literals: &[Literal]) -> Result<u32, AllocError> {
+        let mut clause = Vec::new(self.ledger.alloc);
+        for literal in literals {
+            if !clause.contains(literal) {
+                clause.push(*literal)?;
+            }
+        }
+        if clause.len() == literals.len() {
+            return Ok(step);
+        }
+        self.ledger
+            .steps
+            .push(RuleName::Chain, &[Number::Step(step)], clause.as_slice())
     }
 
     /// Sees to the clause of a step from now on.
@@ -221,8 +243,21 @@ impl<'a> Solver<'a> {
                 }
                 Ok(Some(Outcome::Open))
             }
+            Sums::Gap(equation) => self.close_gap(equation),
             Sums::Settled | Sums::GaveUp => Ok(Some(Outcome::Open)),
         }
+    }
+
+    /// Splits at the number below a value that isn't whole, unless that was done before or too often.
+    fn close_gap(&mut self, equation: u32) -> Result<Option<Outcome>, AllocError> {
+        if self.gaps >= MOST_GAPS {
+            return Ok(Some(Outcome::Open));
+        }
+        self.gaps = self.gaps.saturating_add(1);
+        if self.split_all(&[equation])? {
+            return Ok(None);
+        }
+        Ok(Some(Outcome::Open))
     }
 
     /// Splits the equations that weren't split before. Whether there are any.
@@ -245,6 +280,7 @@ impl<'a> Solver<'a> {
         let right = self.ledger.arg(equation, 1);
         let below = self.ledger.at_most(left, right)?;
         let above = self.ledger.at_most(right, left)?;
+        self.enter(equation)?;
         self.enter(below)?;
         self.enter(above)?;
         self.add(

@@ -18,6 +18,26 @@ const CLAIMED: i128 = 4;
 /// The least type of objects.
 const OBJECTS: i128 = 2;
 
+/// Whether two references are one, or are read by one column at the same keys, at whatever heaps.
+fn are_alike(ledger: &Ledger<'_>, left: u32, right: u32) -> bool {
+    if left == right {
+        return true;
+    }
+    let are_reads = ledger.kind(left) == Kind::Get && ledger.kind(right) == Kind::Get;
+    are_reads && ledger.index(left) == ledger.index(right) && have_same_keys(ledger, left, right)
+}
+
+/// Whether two reads have the same keys.
+fn have_same_keys(ledger: &Ledger<'_>, left: u32, right: u32) -> bool {
+    let count = ledger.args(left).len().max(ledger.args(right).len());
+    for place in 1..count {
+        if ledger.arg(left, place) != ledger.arg(right, place) {
+            return false;
+        }
+    }
+    true
+}
+
 impl Ground {
     /// Wants what a term brings.
     pub(crate) fn visit(&mut self, ledger: &Ledger<'_>, term: u32) -> Result<(), AllocError> {
@@ -335,7 +355,7 @@ impl Ground {
         read: u32,
     ) -> Result<(), AllocError> {
         let member = ledger.arg(guard, 2);
-        if ledger.arg(read, 2) != member {
+        if !are_alike(ledger, ledger.arg(read, 2), member) {
             return Ok(());
         }
         self.wants.want(
@@ -421,7 +441,7 @@ impl Ground {
         number: i128,
     ) -> Result<(), AllocError> {
         let member = ledger.arg(guard, 2);
-        if ledger.arg(read, 2) != member {
+        if !are_alike(ledger, ledger.arg(read, 2), member) {
             return Ok(());
         }
         self.wants.want(

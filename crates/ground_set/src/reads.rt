@@ -128,14 +128,35 @@ impl Reads {
     }
 }
 
-/// Whether a reference may stand in an instance: it is one of the condition's own terms, or its references are.
+/// Whether a reference may stand in an instance: it is one of the condition's own terms, or its references are, or it is
+/// a read at witnesses of quantified formulas over such.
 pub fn may_stand(ledger: &Ledger<'_>, own: usize, reference: u32) -> bool {
     if (reference as usize) < own {
         return true;
     }
-    for arg in ledger.args(reference) {
+    if has_own_references(ledger, own, reference) {
+        return true;
+    }
+    ledger.kind(reference) == Kind::Get && has_witness_keys(ledger, own, reference)
+}
+
+/// Whether the references of a term are the condition's own.
+fn has_own_references(ledger: &Ledger<'_>, own: usize, term: u32) -> bool {
+    for arg in ledger.args(term) {
         if (*arg as usize) >= own && ledger.sort(*arg) == Some(Sort::Ref) {
             return false;
+        }
+    }
+    true
+}
+
+/// Whether each reference of a term is the condition's own, or a witness over such.
+fn has_witness_keys(ledger: &Ledger<'_>, own: usize, term: u32) -> bool {
+    for arg in ledger.args(term) {
+        if (*arg as usize) >= own && ledger.sort(*arg) == Some(Sort::Ref) {
+            if ledger.kind(*arg) != Kind::Cex || !has_own_references(ledger, own, *arg) {
+                return false;
+            }
         }
     }
     true

@@ -5,7 +5,7 @@ use crate::explainer::Explainer;
 use crate::members::{Cause, Link};
 use cert_format::certificate::RuleName;
 use search_clauses::ledger::Ledger;
-use search_clauses::literals::{no, yes};
+use search_clauses::literals::no;
 use search_clauses::steps::Number;
 use search_clauses::trail::{Reason, Trail};
 use std::alloc::{AllocError, Global};

@@ -5,6 +5,7 @@ pub mod classes;
 pub mod explain;
 mod explainer;
 pub mod forms;
+mod gaps;
 pub mod marks;
 mod members;
 pub mod signatures;

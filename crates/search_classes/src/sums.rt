@@ -3,6 +3,7 @@
 use crate::classes::Classes;
 use crate::explain::Explanations;
 use crate::forms::{Form, is_unit};
+use crate::gaps::first_gap;
 use bound_solver::stop::Stop;
 use bound_solver::system::{Answer, System, Values};
 use cert_format::certificate::RuleName;
@@ -20,6 +21,8 @@ pub enum Sums {
     Conflict(u32),
     /// two integers that are to differ get one value in these equations
     Meet(Vec<u32>),
+    /// the value of a sum isn't whole: the equation of the sum and the whole number below it
+    Gap(u32),
     /// there are values for all
     Settled,
     /// a number left 128 bits, or the turns were spent
@@ -119,7 +122,7 @@ fn enter_bound(
 
 /// The equations that are to be false, and whose sides have one value.
 fn coincidences(
-    ledger: &Ledger<'_>,
+    ledger: &mut Ledger<'_>,
     classes: &Classes,
     trail: &Trail,
     values: &Values,
@@ -135,7 +138,10 @@ fn coincidences(
         }
     }
     if equations.is_empty() {
-        return Ok(Sums::Settled);
+        return match first_gap(ledger, classes, trail, values)? {
+            Some(equation) => Ok(Sums::Gap(equation)),
+            None => Ok(Sums::Settled),
+        };
     }
     Ok(Sums::Meet(equations))
 }
@@ -155,7 +161,7 @@ fn meets(
 }
 
 /// The term that a unit is replaced by: the number in its class, or the unit of the class with the least number.
-fn stand_in(ledger: &Ledger<'_>, classes: &Classes, unit: u32) -> u32 {
+pub(crate) fn stand_in(ledger: &Ledger<'_>, classes: &Classes, unit: u32) -> u32 {
     if let Some(number) = classes.members.class(unit).number {
         return number;
     }
