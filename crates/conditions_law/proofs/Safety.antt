@@ -15,9 +15,8 @@ use Rattle.condition_meaning.proofs.Items.{item_conditions_valid}
 use Rattle.condition_meaning.proofs.Laws.{admissible_where_valid}
 use Rattle.function_law.specs.Checks.{ValidAt, CheckIsValid}
 use Rattle.function_law.proofs.Whole.{check_ok}
-use Rattle.function_law.proofs.LocalValid.{check_valid}
 use Rattle.safety_law.proofs.Respect.{thread_modular_law, any_references_law}
-use Rattle.conditions_law.specs.Laws.{LocalOkByCondition, ConditionByLocalOk, ConditionsMeanLocalSafety, ConditionsMeanSafe, ConditionsMeanSafeAnyReferences}
+use Rattle.conditions_law.specs.Laws.{LocalOkByCondition, ConditionsMeanLocalSafety, ConditionsMeanSafe, ConditionsMeanSafeAnyReferences}
 use Rattle.conditions_law.proofs.Fits.{sets_there}
 
 -- each is true, so those with one number are
@@ -34,9 +33,6 @@ of_function p typed valid k label = by_place (slice_get p.functions.items k) ref
 
 pub local_ok_by_condition : LocalOkByCondition
 local_ok_by_condition p typed scoped text = check_ok p text.annotated typed scoped text.conversions (sets_there p text)
-
-pub condition_by_local_ok : ConditionByLocalOk
-condition_by_local_ok p typed scoped text = check_valid p text.annotated typed scoped text.conversions (sets_there p text)
 
 pub conditions_mean_local_safety : ConditionsMeanLocalSafety
 conditions_mean_local_safety p typed scoped text valid =

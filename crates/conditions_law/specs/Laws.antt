@@ -1,7 +1,6 @@
 -- What valid conditions say of a program. From CAV 2010: a program is verified function by function and type by type, and
 -- is then safe. Own: the conditions are formulas, and valid is true in every environment.
-use Rattle.std.specs.Prelude.{◌≡◌, ℕ, List, Some, slice_get, IsTrue}
-use Rattle.method.specs.declared.program.FunctionInfo.{FunctionInfo}
+use Rattle.std.specs.Prelude.{ℕ, List}
 use Rattle.method.specs.declared.program.Program.{Program}
 use Rattle.method.specs.Legal.{Good}
 use Rattle.method.specs.Machine.{State, Safe, IsStart, IsFine}
@@ -12,7 +11,6 @@ use Rattle.method.specs.Scopes.{Scoped}
 use Rattle.method.specs.Typing.{WellTyped}
 use Rattle.condition_meaning.specs.Promises.{ConditionsAreValid}
 use Rattle.function_law.specs.Checks.{CheckIsValid}
-use Rattle.function_law.specs.Direct.{is_direct}
 use Rattle.conditions_law.specs.Texts.{TextFits}
 
 -- where the condition of a check is valid, no local run of the function fails the check
@@ -20,13 +18,6 @@ abbrev pub LocalOkByCondition : Type 0
 LocalOkByCondition =
     (p : Program) → WellTyped p → Scoped p → TextFits p
     → (number label : ℕ) → CheckIsValid p number label → LocalOk p number label
-
--- and the converse, for direct code: no condition is stronger than its check
-abbrev pub ConditionByLocalOk : Type 0
-ConditionByLocalOk =
-    (p : Program) → WellTyped p → Scoped p → TextFits p
-    → (number label : ℕ) (f : FunctionInfo) → slice_get p.functions.items number ≡ Some f → IsTrue (is_direct f)
-    → LocalOk p number label → CheckIsValid p number label
 
 -- a program all of whose conditions are valid is admissible, and no local run of its functions fails a check
 abbrev pub ConditionsMeanLocalSafety : Type 0

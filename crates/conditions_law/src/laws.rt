@@ -1,12 +1,11 @@
 //! The laws, as contracts of functions that do nothing.
 
-ghost use Rattle.conditions_law.specs.Laws.{LocalOkByCondition, ConditionByLocalOk, ConditionsMeanLocalSafety, ConditionsMeanSafe, ConditionsMeanSafeAnyReferences};
+ghost use Rattle.conditions_law.specs.Laws.{LocalOkByCondition, ConditionsMeanLocalSafety, ConditionsMeanSafe, ConditionsMeanSafeAnyReferences};
 ghost use Rattle.conditions_law.specs.Samples.{SharedIsVerifiable, StoreIsVerifiable};
 
-/// Check by check: where its condition is valid, no local run fails the check; and in direct code the other way round.
+/// Check by check: where its condition is valid, no local run fails the check.
 pub fn conditions_mean_checks()
-    ensures forth { LocalOkByCondition }
-    ensures back { ConditionByLocalOk }
+    ensures { LocalOkByCondition }
 {}
 
 /// A program whose conditions are all valid is admissible, and no local run of its functions fails a check.

@@ -56,11 +56,11 @@ use Rattle.action_conditions.proofs.Scopes.{sees_in}
 use Rattle.action_conditions.proofs.Steady.{Steady}
 use Rattle.action_conditions.proofs.Stores.{on_gave, store_tests, stored_progress, ends_store, left_tests, plain_left, FitsLeft, ends_left, left_tested, left_is, store_tested, store_stated, storable_by}
 use Rattle.function_law.proofs.Given as given
-use Rattle.function_law.proofs.Parts as parts
+use Rattle.converse_law.proofs.Parts as parts
 use Rattle.function_law.proofs.Texts.{PlainText}
 use Rattle.converse_law.proofs.Allocations as allocations
 use Rattle.converse_law.proofs.Paths.{Knows, at_number, none_fails, fails_front, fails_behind, none_declared, other_declared}
-use Rattle.function_law.specs.Direct.{is_direct_action}
+use Rattle.converse_law.specs.Direct.{is_direct_action}
 use Rattle.converse_law.specs.Plain.{is_plain_action}
 
 fitted : {A : Type 0} (b : Bool) (o : Outcome A) (r : A) → b ≡ true → o.end ≡ Gave r → (fitting b o).end ≡ Gave r

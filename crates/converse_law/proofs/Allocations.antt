@@ -45,7 +45,7 @@ use Rattle.action_conditions.proofs.NewValues.{is_typed, fields_have, fields_sor
 use Rattle.action_conditions.proofs.Places.{AllStand, ShownAt, Stands, Stated}
 use Rattle.action_conditions.proofs.Plain as plainly
 use Rattle.action_conditions.proofs.Words.{has_mode}
-use Rattle.function_law.proofs.Parts as parts
+use Rattle.converse_law.proofs.Parts as parts
 use Rattle.converse_law.proofs.Paths.{Knows}
 
 module _ (p : Program) (good : Annotated p) (typed : WellTyped p) (contracts : (n : ℕ) (g : FunctionInfo) → slice_get p.functions.items n ≡ Some g → ContractFits p g)

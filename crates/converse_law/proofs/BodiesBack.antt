@@ -44,8 +44,8 @@ use Rattle.condition_meaning.proofs.Environments.{Environment, Is, Has, has_says
 use Rattle.condition_meaning.proofs.Known.{has_equal, heap_equal, known_parts, known_or, known_other, known_never, known_not}
 use Rattle.condition_meaning.proofs.Interference.{good_of, rely_of, heap_of}
 use Rattle.action_conditions.proofs.Steady.{Steady, moved_steady}
-use Rattle.function_law.proofs.Parts as parts
-use Rattle.function_law.proofs.LoopsBack as loops
+use Rattle.converse_law.proofs.Parts as parts
+use Rattle.converse_law.proofs.LoopsBack as loops
 use Rattle.converse_law.proofs.ActsBack as acts
 use Rattle.converse_law.proofs.CallsBack as call_runs
 

@@ -44,7 +44,7 @@ use Rattle.condition_meaning.proofs.Known.{Known, known_by, known_holds}
 use Rattle.action_conditions.proofs.NewBacks.{new_back}
 use Rattle.action_conditions.proofs.Places.{AllStand, Stands}
 use Rattle.function_law.proofs.Given as given
-use Rattle.function_law.proofs.Parts as parts
+use Rattle.converse_law.proofs.Parts as parts
 use Rattle.converse_law.proofs.CallFits.{FitsAll, FitsTo}
 use Rattle.converse_law.proofs.Paths.{Knows, at_number, fails_front, fails_behind, none_declared, other_declared}
 

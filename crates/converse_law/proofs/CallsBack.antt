@@ -67,7 +67,7 @@ use Rattle.action_conditions.proofs.Plain as plainly
 use Rattle.action_conditions.proofs.Steady.{Steady, moved_steady, steady_proper}
 use Rattle.action_conditions.proofs.Stores.{on_gave, store_tests, stored_progress, ends_store, store_tested}
 use Rattle.function_law.proofs.Given as given
-use Rattle.function_law.proofs.Parts as parts
+use Rattle.converse_law.proofs.Parts as parts
 use Rattle.converse_law.proofs.CallFits.{fits_call}
 use Rattle.converse_law.proofs.CallParts as call_parts
 use Rattle.converse_law.proofs.Callees as callees

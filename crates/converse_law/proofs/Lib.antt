@@ -1,3 +1,6 @@
+pub mod Parts
+pub mod LoopsBack
+pub mod Entries
 pub mod Paths
 pub mod Callees
 pub mod CallFits

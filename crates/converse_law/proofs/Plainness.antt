@@ -31,12 +31,11 @@ use Rattle.method.specs.declared.program.Receiver.TheVariants.{Nobody, NewVariab
 use Rattle.method.specs.Text.{reads, action_reads, is_quiet, specs_read, option_reads, clauses_read}
 use Rattle.terms.specs.Formula.{Formula}
 use Rattle.conditions.specs.Symbolic.{Symbolic, ranges, term, test}
-use Rattle.conditions.specs.Paths.{Path, Done, Check, Fact, Branch, Standalone, sequence, guarded, Execution, Gives, check_each, after, fact}
+use Rattle.conditions.specs.Paths.{Path, Done, Check, Fact, Branch, Standalone, sequence, guarded, Execution, Gives, check_each, all_facts, after, fact}
 use Rattle.conditions.specs.Code.{Spot, State, ValueAndState, new_of, new_value, new_heap, arithmetic, code, all_code, all_symbolic, writable, call_scene, return_scene}
 use Rattle.conditions.specs.Actions.{Place, InLocal, InField, left_side, store, contents, malloc, convert_to, items_of, right_side, member_change, members_change, owned_change, run_action, clauses, conditional, wrap_object, unwrap_object}
 use Rattle.conditions.specs.Statements.{any_result, receiving_place, receive, call_effect, call, interference, havoc_one, havoc, turns, check_invariants, invariant_formulas, value_of, return_checks, stmt, stmts, body_end, body, is_set_by, frame_step, loop_exit, code_at, row_declares, row_returns}
 use Rattle.conditions.specs.Ways.{IsPlain}
-use Rattle.function_law.proofs.Plainness.{plain_facts}
 use Rattle.converse_law.specs.Plain.{is_plain_right, is_plain_action, is_plain_stmt, is_plain_row}
 
 plain_sequence : (q r : Path) → IsPlain q → IsPlain r → IsPlain (sequence q r)
@@ -56,6 +55,10 @@ plain_guarded f (Standalone g q) a = absurd a
 plain_checks : {A : Type 0} (fs : List Formula) (t : Execution A) → IsPlain t.path → IsPlain (check_each fs t).path
 plain_checks [] t a = a
 plain_checks (f ∷ fs) t a = plain_checks fs t a
+
+plain_facts : {A : Type 0} (fs : List Formula) (t : Execution A) → IsPlain t.path → IsPlain (all_facts fs t).path
+plain_facts [] t a = a
+plain_facts (f ∷ fs) t a = plain_facts fs t a
 
 plain_either : {A : Type 0} (b : Bool) (t u : Execution A) → IsPlain t.path → IsPlain u.path → IsPlain (if b then t else u).path
 plain_either true t u a b = a

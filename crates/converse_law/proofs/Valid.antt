@@ -51,10 +51,9 @@ use Rattle.condition_meaning.proofs.WalksBack.{fails_there}
 use Rattle.action_conditions.proofs.Annotations.{SetFits}
 use Rattle.method.specs.Tables.{struct_of}
 use Rattle.function_law.specs.Checks.{ValidAt, CheckIsValid}
-use Rattle.function_law.proofs.Converse.{values_back, all_are_true, entry_shown, valid_unless}
+use Rattle.converse_law.proofs.Entries.{all_apart, take_many, more_types, values_back, all_are_true, entry_shown, valid_unless, all_threads}
 use Rattle.function_law.proofs.Given as given
-use Rattle.function_law.proofs.LocalValid.{all_threads}
-use Rattle.function_law.proofs.Parts as parts
+use Rattle.converse_law.proofs.Parts as parts
 use Rattle.function_law.proofs.Texts.{SpecText, WrapText, PlainText, ActionText}
 use Rattle.function_law.proofs.TextTests.{OtherText, is_other, text_said}
 use Rattle.converse_law.proofs.BodiesBack as bodies
@@ -116,27 +115,6 @@ module _ (p : Program) (good : Annotated p) (number : ℕ) (f : FunctionInfo) (f
   body_said (s ∷ ss) d said = let z = and_both (is_plain_stmt s) (every is_plain_stmt ss) d in (stmt_said s z.0 said.0, body_said ss z.1 said.1)
 
 -- The entry.
-
-all_apart : (E : Type 0) (H : E → Formula → Type 0) (e : E) (fs gs : List Formula) → AllHold E H e (fs ++ gs) → AllHold E H e fs × AllHold E H e gs
-all_apart E H e [] gs a = (tt, a)
-all_apart E H e (f ∷ fs) gs a = let z = all_apart E H e fs gs a.1 in ((a.0, z.0), z.1)
-
-take_many : (n : ℕ) (vs : List VariableInfo) → n ≤ length vs → length (take n vs) ≡ n
-take_many zero vs less = refl
-take_many (suc n) [] less = absurd (omega (arith, less))
-take_many (suc n) (v ∷ vs) less = ap suc (take_many n vs (omega (arith, less)))
-
-more_types : (n : ℕ) (vs : List VariableInfo) (xs : List Value) → in_types (take n vs) xs ≡ true → in_types vs xs ≡ true
-more_types zero [] xs t = t
-more_types zero (v ∷ vs) [] t = refl
-more_types zero (v ∷ vs) (x ∷ xs) t = absurd (true≢false (sym t))
-more_types (suc n) [] xs t = t
-more_types (suc n) (v ∷ vs) [] t = refl
-more_types (suc n) (v ∷ vs) (x ∷ xs) t = by (in_type v.ty x) t (λ k. more_types n vs xs k)
-  where
-    by : (b : Bool) → (if b then in_types (take n vs) xs else false) ≡ true → (in_types (take n vs) xs ≡ true → in_types vs xs ≡ true) → (if b then in_types vs xs else false) ≡ true
-    by true k more = more k
-    by false k more = absurd (true≢false (sym k))
 
 module _ (p : Program) (good : Annotated p) (typed : WellTyped p) (contracts : (n : ℕ) (g : FunctionInfo) → slice_get p.functions.items n ≡ Some g → ContractFits p g)
     (number : ℕ) (f : FunctionInfo) (fis : slice_get p.functions.items number ≡ Some f)

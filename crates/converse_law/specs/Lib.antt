@@ -1,3 +1,4 @@
+pub mod Direct
 pub mod Plain
 pub mod Laws
 pub mod Samples

@@ -1,11 +1,5 @@
 pub mod Given
-pub mod Parts
-pub mod LoopsBack
-pub mod Bodies
-pub mod Converse
-pub mod Plainness
 pub mod Texts
 pub mod Local
-pub mod LocalValid
 pub mod TextTests
 pub mod Whole

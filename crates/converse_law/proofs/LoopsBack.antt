@@ -62,7 +62,7 @@ use Rattle.action_conditions.proofs.Plain as plainly
 use Rattle.action_conditions.proofs.Steady.{Steady}
 use Rattle.action_conditions.proofs.Variables.{local_there, local_elsewhere}
 use Rattle.function_law.proofs.Given as given
-use Rattle.function_law.proofs.Parts as parts
+use Rattle.converse_law.proofs.Parts as parts
 
 every_from : (t : ℕ → Bool) (xs : List ℕ) → ((j : ℕ) → is_of xs j ≡ true → t j ≡ true) → every t xs ≡ true
 every_from t [] each = refl

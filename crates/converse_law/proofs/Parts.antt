@@ -1,5 +1,5 @@
 -- From an environment to a run, of one function: places, expressions, plain actions, the halves of unwrapping, and the checks of invariants and returns.
-use Rattle.function_law.specs.Direct.{is_direct_action}
+use Rattle.converse_law.specs.Direct.{is_direct_action}
 use Rattle.std.proofs.Common.{◌≡◌, ℕ, suc, ◌+◌, ◌==◌, ◌⊎◌, inl, inr, ⊎_elim, Bool, true, false, pos, List, [], ◌∷◌, map, length, slice_get, Option, Some, None, refl, ap, sym, ◌∙◌, subst, arith, IsTrue, IsFalse}
 use Rattle.object_types.specs.declared.references.Ref.{Ref}
 use Rattle.object_types.specs.declared.values.Value.{Value}
