@@ -1,0 +1,4 @@
+//! Instances of axioms, written out by hand, and numbers that make none.
+#![tactic(auto)]
+
+pub mod laws;

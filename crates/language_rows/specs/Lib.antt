@@ -1,0 +1,6 @@
+pub mod BagSource
+pub mod BagProgram
+pub mod Columns
+pub mod LockFormulas
+pub mod BagFormulas
+pub mod Laws

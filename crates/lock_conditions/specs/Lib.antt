@@ -1,0 +1,11 @@
+pub mod Source
+pub mod LockProgram
+pub mod Words
+pub mod Labels
+pub mod Types
+pub mod InitializeLock
+pub mod Acquire
+pub mod Release
+pub mod Worker
+pub mod Main
+pub mod Laws
