@@ -76,7 +76,8 @@ fn write_block<S: Store>(
 ) -> Result<usize, VerifyFault>
     requires literals { literals_of block.now.steps ≤ 4194304 }
     requires room { written ≤ 67108860 }
-    ensures after { (before : Option Map) (text : List ℕ) → Stands before (S.contents store.old) cert.now text written →
+    ensures after { (before : Option Map) (text : List ℕ) →
+        Stands before (S.contents store.old) cert.now text written →
         After result before (S.contents store.new) cert.now text (block.now ∷ []) }
     ensures long { IfOk result (λ n. n ≡ written + length (block_text block.now)) }
     ensures room { IfOk result (λ n. n ≤ 67108860) }
@@ -111,7 +112,8 @@ pub fn write_finding<S: Store>(
 ) -> Result<usize, VerifyFault>
     requires literals { HasFewLiterals finding.now }
     requires room { written ≤ 67108860 }
-    ensures after { (before : Option Map) (text : List ℕ) → Stands before (S.contents store.old) cert.now text written →
+    ensures after { (before : Option Map) (text : List ℕ) →
+        Stands before (S.contents store.old) cert.now text written →
         After result before (S.contents store.new) cert.now text (block_of finding.now ∷ []) }
     ensures long { IfOk result (λ n. n ≡ written + length (block_text (block_of finding.now))) }
     ensures room { IfOk result (λ n. n ≤ 67108860) }

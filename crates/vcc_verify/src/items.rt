@@ -78,7 +78,8 @@ pub fn write_item<S: Store>(
     requires theory { IsTheory theory (language_of theory.program.now) }
     requires labels { length (item_conditions theory.program.now item) ≤ length labels.now }
     requires room { written ≤ 67108860 }
-    ensures run { (before : Option Map) (text : List ℕ) → Stands before (S.contents store.old) cert.now text written →
+    ensures run { (before : Option Map) (text : List ℕ) →
+        Stands before (S.contents store.old) cert.now text written →
         ConditionsRun (language_of theory.entry.program.now) (item_conditions theory.entry.program.now item)
         (labels_of labels.now) (at_start written) before (S.contents store.new) cert.now text result }
     ensures room { IfOk result (λ end. end.written ≤ 67108860) }
@@ -146,7 +147,8 @@ pub fn write_items<S: Store, O: Sink>(
     requires theory { IsTheory theory (language_of theory.program.now) }
     requires labels { labels_of labels.now ≡ spec.program_labels theory.program.now }
     requires room { written ≤ 67108860 }
-    ensures run { (before : Option Map) (text : List ℕ) → Stands before (S.contents store.old) cert.now text written →
+    ensures run { (before : Option Map) (text : List ℕ) →
+        Stands before (S.contents store.old) cert.now text written →
         ItemsRun theory.entry.program.now theory.entry.program.now.items.items true before (S.contents store.new)
         cert.now text (O.written out.old) (O.written out.new) result }
     ensures store_failed { IsErrOf result (VerifyFault.Store StoreFault.Failed) →
