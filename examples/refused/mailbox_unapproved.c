@@ -1,7 +1,7 @@
 // mailbox.c with one change: anybody may change taken. The receiver owns the
 // mailbox, and was told that taken is 0, but knows no more of it as soon as
 // others have run.
-// Refused: function Receive: not proved, first Receive/1 LoopInv line 32
+// Refused: function Receive: not proved, first Receive/1 LoopInv line 32; function Receiver: not proved, first Receiver/2 Requires line 49; function main: not proved, first main/25 Requires line 67
 #include <vcc.h>
 struct Message {
   int text;

@@ -2,15 +2,11 @@
 #![tactic(auto)]
 
 #[cfg(test)]
-mod answers;
-#[cfg(test)]
 mod approvals;
 #[cfg(test)]
 mod certificates;
 #[cfg(test)]
 mod commands;
-#[cfg(test)]
-mod gallery;
 #[cfg(test)]
 mod rows;
 #[cfg(test)]

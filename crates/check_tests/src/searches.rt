@@ -36,7 +36,7 @@ const GROWS_REPORT: &str =
 /// The certificate of a condition that has no block.
 const GROWS_CERT: &str = "vcc-cert 1\nconditions 1\ncondition 0 0 0\nend\n";
 
-const DIVIDES: &str = "void main() { _(assert -7 / 2 == -3) }";
+const DIVIDES: &str = "void main() { _(assert -7 / 2 == -3 && -7 % 2 == -1) }";
 
 /// Sources, with what a verify prints of each, and the line of a check by what it wrote.
 const ROWS: &[(&str, &str, &str)] = &[

@@ -1,12 +1,6 @@
 //! Sources and certificates that crates of tests read: the files of `examples/`, to the letter (the gate compares them).
 #![tactic(auto)]
 
-pub mod answers;
-pub mod gallery;
-pub mod reach;
-pub mod refused;
-pub mod tutorial;
-
 /// The lock with its two threads, `lock.c`.
 pub const LOCK: &str = "#include <vcc.h>
 struct Data {

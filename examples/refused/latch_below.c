@@ -1,0 +1,52 @@
+// latch.c with one change: who counts down doesn't look whether the latch is
+// at 0.
+// Refused: function CountDown: not proved, first CountDown/11 Invariant line 20
+#include <vcc.h>
+_(claimable) struct Latch {
+  volatile int left;
+  _(invariant 0 <= left && left <= \old(left))
+};
+struct Proof {
+  _(ghost \claim k;)
+};
+void CountDown(struct Latch *l _(ghost \claim c))
+  _(requires \wrapped(c) && \claims_object(c, l))
+  _(writes c)
+{
+  int n = 0;
+  int was = 0;
+  _(atomic c, l) { n = l->left; }
+  {
+    _(atomic c, l) { was = InterlockedCompareExchange(&l->left, n - 1, n); }
+  }
+}
+void Await(struct Latch *l, struct Proof *p)
+  _(maintains \wrapped(l) && \mutable(p))
+  _(writes l, p)
+  _(ensures \wrapped(p->k) && \claims_object(p->k, l) && \claims(p->k, l->left == 0))
+{
+  int n = 0;
+  do
+    _(invariant \wrapped(l) && \mutable(p))
+  {
+    _(atomic l) {
+      n = l->left;
+      _(ghost if (n == 0) p->k = \make_claim({l}, l->left == 0);)
+    }
+  } while (n != 0);
+}
+void main()
+{
+  struct Latch *l = malloc(sizeof(struct Latch));
+  struct Proof *p = malloc(sizeof(struct Proof));
+  int n = 0;
+  if (l != NULL && p != NULL) {
+    l->left = 1;
+    _(wrap l)
+    _(ghost \claim c = \make_claim({l}, \true);)
+    vcc_spawn(CountDown, l _(ghost c));
+    Await(l, p);
+    _(atomic l) { n = l->left; }
+    _(assert n == 0)
+  }
+}
