@@ -13,7 +13,7 @@ run:
 	@cd crates/vcc && rt try -- check $(EXAMPLES)/lock.c $(EXAMPLES)/lock.cert
 	@cd crates/vcc && rt try -- run $(EXAMPLES)/lock.c $(EXAMPLES)/lock.sched
 
-# Proves and builds the program and every crate below it, lowest first, on all cores: half an hour on four.
+# Proves and builds the program and every crate below it, lowest first, on all cores: some two hours on four.
 build:
 	cd crates/vcc && rt all check --jobs $(CORES)
 	cd crates/vcc && rt run -- check $(EXAMPLES)/lock.c $(EXAMPLES)/lock.cert
