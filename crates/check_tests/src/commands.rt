@@ -69,7 +69,7 @@ const ROWS: &[(&str, &str, &str, u8)] = &[
 ];
 
 const USAGE: &str =
-    "usage: vcc check SOURCE CERT, verify SOURCE CERT [--leaves N] [--rounds N], run SOURCE SCHEDULE\n";
+    "usage: vcc check SOURCE CERT, verify SOURCE CERT [--leaves N] [--rounds N], run SOURCE SCHEDULE, gen N\n";
 
 /// Names with the texts that they hold.
 pub type Held<'a> = &'a [(&'a str, &'a str)];
@@ -219,6 +219,17 @@ const NO_COMMANDS: &[&[&str]] = &[
     &["check", "s.c", ""],
     &["check", "-s.c", "C"],
     &["check", "s.c", "-"],
+    &["gen"],
+    &["gen", ""],
+    &["gen", "0"],
+    &["gen", "51"],
+    &["gen", "01"],
+    &["gen", "+1"],
+    &["gen", "1x"],
+    &["gen", "99999999999999999999"],
+    &["gen", "1", "2"],
+    &["gen", "--leaves", "5"],
+    &["Gen", "1"],
 ];
 
 /// Both names.

@@ -371,3 +371,13 @@ fn search_memory(rt: HostRuntime) {
         is(&rt, &fits, &true);
     }
 }
+
+/// A gen makes its source, its certificate and the verdict by itself: the first call of the store would fail.
+#[test]
+fn one_copy(rt: HostRuntime) {
+    let mut store = holding(rt.alloc(), &[], &[1]).expect(&rt, "memory for a store");
+    let answer = command(rt.alloc(), &["gen", "1"], &mut store, &[]);
+    let (text, status) = answer.expect(&rt, "memory for a search");
+    let line = "gen 1: 3 types, 6 functions, verified, yes\n";
+    is(&rt, &(text.as_str(), status), &(line, 0));
+}

@@ -6,6 +6,7 @@ use Rattle.method.specs.declared.program.Program.{Program}
 use Rattle.conditions.specs.Conditions.{conditions}
 use Rattle.condition_meaning.specs.Languages.{language_of}
 use Rattle.condition_meaning.specs.Promises.{ConditionsAreValid}
+use Rattle.c_types.specs.Typed.{IsProgramOf}
 use Rattle.tree_forms.proofs.FormLaw.{form_law}
 use Rattle.typed_conditions.specs.Laws.{SourcesAreAnnotated, SourcesAreSafe}
 use Rattle.cert_format.specs.Derivations.{Derivation}
@@ -16,7 +17,7 @@ use Rattle.vcc_base.specs.declared.limit.Limit.TheVariants as limit
 use Rattle.vcc_cli.specs.declared.refusal.Refusal.{Refusal}
 use Rattle.vcc_cli.specs.declared.refusal.Refusal.TheVariants.{Count}
 use Rattle.vcc_cli.specs.declared.verdict.Verdict.{Verdict}
-use Rattle.vcc_cli.specs.Accepts.{HoldsSafe}
+use Rattle.vcc_cli.specs.Accepts.{HoldsSafe, IsSafeSource}
 use Rattle.vcc_cli.specs.Checks.{AreJudged, HoldsCertificate, IsCertificateStop, IsProgramAnswer}
 use Rattle.vcc_cli.specs.Held.{HoldsProgram}
 
@@ -58,14 +59,15 @@ module _ (m : Map) (name : List ℕ) (p : Program) (few : length (conditions p) 
         ),
       ))
 
--- a program with valid conditions is safe
+-- a source whose program has valid conditions is safe
+pub safe_source : (source : List ℕ) (p : Program) → IsProgramOf source p → SourcesAreAnnotated → SourcesAreSafe → (IsLayered (language_of p) → IsFaithful (language_of p) → ConditionsAreValid p) → IsSafeSource source
+safe_source source p is annotated safe valid =
+    let reads = is.reads in
+    let form = form_law source reads.items reads.end reads.text in
+    let both = annotated reads.items reads.end form reads.typed p reads.tables_are in
+    record { program = p; reads = is; safe = safe reads.items reads.end form reads.typed p reads.tables_are (valid both.1 both.0) }
+
+-- so is what a name holds
 pub holds_safe : (m : Map) (name : List ℕ) (p : Program) → HoldsProgram m name p → SourcesAreAnnotated → SourcesAreSafe → (IsLayered (language_of p) → IsFaithful (language_of p) → ConditionsAreValid p) → HoldsSafe m name
 holds_safe m name p holds annotated safe valid =
-    let reads = holds.program.reads in
-    let form = form_law holds.source reads.items reads.end reads.text in
-    let both = annotated reads.items reads.end form reads.typed p reads.tables_are in
-    record {
-      source = holds.source;
-      held = holds.held.0;
-      is_safe = record { program = p; reads = holds.program; safe = safe reads.items reads.end form reads.typed p reads.tables_are (valid both.1 both.0) };
-    }
+    record { source = holds.source; held = holds.held.0; is_safe = safe_source holds.source p holds.program annotated safe valid }

@@ -7,6 +7,7 @@ pub mod Verdicts
 pub mod Accepting
 pub mod Runs
 pub mod Searching
+pub mod Generating
 pub mod Commands
 pub mod Replaying
 pub mod Printed

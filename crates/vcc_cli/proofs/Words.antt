@@ -1,7 +1,8 @@
 -- The words of one command are those of no other, and name its names once.
 use Rattle.std.proofs.Common.{◌≡◌, ℕ, ◌+◌, Bool, true, false, ◌==◌, if◌then◌else◌, List, [], ◌∷◌, ◌++◌, length, flat_map, codes, decimal, slice_index, refl, ap, sym, ◌∙◌, subst, ne_eqb, arith}
 use Rattle.std.proofs.lemmas.List.{length-append}
-use Rattle.vcc_words.specs.Words.{IsName, IsCheck, IsVerify, IsRunCommand, Part, Name, Leaves, LeavesIs, Rounds, RoundsIs, spelling, names}
+use Rattle.std.proofs.lemmas.Fmt.{decimal_injective}
+use Rattle.vcc_words.specs.Words.{IsName, IsNamedPair, IsCheck, IsGen, IsVerify, IsRunCommand, Part, Name, Leaves, LeavesIs, Rounds, RoundsIs, spelling, names}
 
 -- ---- no two commands
 
@@ -27,6 +28,25 @@ unfolding first_length
 verify_or_run words source cert a b leaves rounds verify run =
     let both : 6 ≡ 3 = sym (ap first_length verify.are) ∙ ap first_length run.are in
     omega (arith, both)
+
+-- words of a pair aren't a gen
+pub pair_or_gen : (command : List ℕ) (words : List (List ℕ)) (a b : List ℕ) (copies : ℕ) → IsNamedPair command words a b → IsGen words copies → ⊥
+pair_or_gen command words a b copies pair gen =
+    let both : 3 ≡ 2 = sym (ap length pair.are) ∙ ap length gen.are in
+    omega (arith, both)
+
+pub verify_or_gen : (words : List (List ℕ)) (source cert : List ℕ) (leaves rounds copies : ℕ) → IsVerify words source cert leaves rounds → IsGen words copies → ⊥
+unfolding first_length
+verify_or_gen words source cert leaves rounds copies verify gen =
+    let both : 6 ≡ 3 = sym (ap first_length verify.are) ∙ ap first_length gen.are in
+    omega (arith, both)
+
+-- ---- the number of a gen
+
+pub one_gen : (words : List (List ℕ)) (n k : ℕ) → IsGen words n → IsGen words k → n ≡ k
+one_gen words n k one other =
+    let both : codes "gen" ∷ decimal n ∷ [] ≡ codes "gen" ∷ decimal k ∷ [] = sym one.are ∙ other.are in
+    decimal_injective n k (omega (arith, one.most)) (omega (arith, other.most)) (cc both)
 
 -- ---- the names of a verify
 

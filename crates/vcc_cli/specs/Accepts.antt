@@ -1,5 +1,6 @@
 -- When a source and a certificate are accepted, and what that means. From proof-carrying code (Necula 1997): who receives a program with a certificate checks the one by the other.
 use Rattle.std.specs.Prelude.{◌≡◌, ℕ, ◌≤◌, List, length, Option, Some}
+use Rattle.generated_source.specs.Sources.{generated}
 use Rattle.c_syntax.specs.declared.token.Span.{Span}
 use Rattle.c_syntax.specs.Items.{Item}
 use Rattle.typing_spec.specs.First.{IsWellTyped}
@@ -85,3 +86,9 @@ pub record LeavesAccepted (now : Option Map) (source_name cert_name : List ℕ) 
   pub told : now ≡ Some holds
   pub accepted : HoldAccepted holds source_name cert_name
   pub is_safe : HoldsSafe holds source_name
+
+-- There is a certificate by which the source of so many copies is accepted, and the source is safe.
+pub record IsGenAccepted (copies : ℕ) : Type 0 where
+  pub cert : List ℕ
+  pub accepts : Accepts (generated copies) cert
+  pub is_safe : IsSafeSource (generated copies)

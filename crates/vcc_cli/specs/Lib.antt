@@ -7,4 +7,5 @@ pub mod Lines
 pub mod Run
 pub mod Replays
 pub mod Searches
+pub mod Generated
 pub mod Ends

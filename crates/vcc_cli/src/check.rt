@@ -58,7 +58,7 @@ fn judge_blocks<'a, 'p>(
 }
 
 /// The verdict of the certificate with this name over a program.
-fn judge_name<'a, 'p, S: Store>(
+pub fn judge_name<'a, 'p, S: Store>(
     alloc: Global,
     store: &mut S,
     program: &'p Program,

@@ -3,6 +3,7 @@
 
 pub mod certificate;
 pub mod check;
+mod copies;
 pub mod labels;
 mod main_call;
 pub mod program;

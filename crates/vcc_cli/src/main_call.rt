@@ -2,14 +2,16 @@
 
 ghost use Rattle.std.specs.Prelude.{◌≡◌, ◌≤◌, List, ℕ, Some};
 ghost use Rattle.vcc_base.specs.Maps.{Map};
-ghost use Rattle.vcc_words.specs.Words.{IsCheck, IsVerify, texts};
+ghost use Rattle.vcc_words.specs.Words.{IsCheck, IsGen, IsVerify, texts};
 ghost use Rattle.vcc_cli.specs.Accepts.{IsAcceptable, IsAccepted, IsCheckOf, LeavesAccepted, SourceIsSafe};
+ghost use Rattle.vcc_cli.specs.Generated.{ShowsCopies};
 ghost use Rattle.vcc_cli.specs.Lines.{wrote};
 ghost use Rattle.vcc_cli.specs.Run.{read_counts};
 ghost use Rattle.vcc_cli.specs.Searches.{stored};
-ghost use Rattle.vcc_cli.specs.Ends.{Ends, EndsWith, GetsYes, Keeps, Shows};
+ghost use Rattle.vcc_cli.specs.Ends.{Ends, EndsWith, Generates, GetsYes, Keeps, Shows};
 
 use crate::check::check;
+use crate::copies::verify_copies;
 use crate::refusal::Refusal;
 use crate::report::report;
 use crate::run::run;
@@ -33,12 +35,15 @@ fn run_command<S: Store, O: Sink>(
         (wrote (O.faults out.old) (O.faults out.new) (O.written out.old) (O.written out.new)) result }
     ensures shows { (m : Map) → S.contents store.old ≡ Some m → result ≡ 0 →
         Shows m command.entry (S.contents store.new) }
+    ensures generates { Generates command.entry
+        (wrote (O.faults out.old) (O.faults out.new) (O.written out.old) (O.written out.new)) result }
     ensures keeps { Keeps command.entry (S.contents store.old) (S.contents store.new) }
 {
     match command {
         Command::Check(pair) => check(alloc, store, pair.source, pair.other, out),
         Command::Verify(search) => verify(alloc, store, search, out),
         Command::Run(pair) => run(alloc, store, pair.source, pair.other, out),
+        Command::Gen(copies) => verify_copies(alloc, copies, out),
     }
 }
 
@@ -67,6 +72,10 @@ pub fn vcc_main<S: Store, O: Sink>(
     ensures verified { (m : Map) → S.contents store.old ≡ Some m → (source cert : List ℕ) (leaves rounds : ℕ) →
         IsVerify (texts words.now) source cert leaves rounds → result ≡ 0 →
         LeavesAccepted (S.contents store.new) source cert }
+    // Where a gen ends with yes, its line says so, there is a certificate by which the source of so many copies is
+    // accepted, and the source is safe; where it ends with no, its line says so.
+    ensures generated { (copies : ℕ) → IsGen (texts words.now) copies → ShowsCopies copies
+        (wrote (O.faults out.old) (O.faults out.new) (O.written out.old) (O.written out.new)) result }
     // Each answer, its line and its status are those of the words; a read or a write fault only where one happened.
     ensures exact { (m : Map) → S.contents store.old ≡ Some m → EndsWith m (texts words.now)
         (read_counts (S.read_faults store.old) (S.read_faults store.new))

@@ -3,3 +3,4 @@ pub mod Pieces
 pub mod Walk
 pub mod Parts
 pub mod Counts
+pub mod Copying

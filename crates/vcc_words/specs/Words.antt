@@ -2,7 +2,7 @@
 use Rattle.std.specs.Prelude.{◌≡◌, ◌≢◌, ◌⊎◌, ℕ, ◌<◌, ◌≤◌, List, [], ◌∷◌, ◌++◌, length, map, flat_map, slice_index, codes, decimal, Option, Some, None, String, string_bytes}
 use Rattle.std.specs.declared.alloc.Global.{Global}
 use Rattle.vcc_words.specs.declared.command.Command.{Command}
-use Rattle.vcc_words.specs.declared.command.Command.TheVariants.{Check, Verify, Run}
+use Rattle.vcc_words.specs.declared.command.Command.TheVariants.{Check, Verify, Run, Gen}
 
 -- the bytes of the words
 abbrev pub texts : List (String Global) → List (List ℕ)
@@ -88,6 +88,14 @@ pub record IsVerify (words : List (List ℕ)) (source cert : List ℕ) (leaf_cou
   pub leaves_set : IsSetting (leaves parts) 1 1000000 100000 leaf_count
   pub rounds_set : IsSetting (rounds parts) 0 1000 64 round_count
 
+-- ---- a number
+
+-- `gen N`, for 1 to 50 copies
+pub record IsGen (words : List (List ℕ)) (copies : ℕ) : Type 0 where
+  pub are : words ≡ codes "gen" ∷ decimal copies ∷ []
+  pub least : 1 ≤ copies
+  pub most : copies ≤ 50
+
 -- ---- commands
 
 -- the words are this command
@@ -95,12 +103,14 @@ abbrev pub IsCommand : List (List ℕ) → Command → Type 0
 IsCommand words (Check pair) = IsCheck words pair.source.now pair.other.now
 IsCommand words (Verify search) = IsVerify words search.source.now search.cert.now search.leaves search.rounds
 IsCommand words (Run pair) = IsRunCommand words pair.source.now pair.other.now
+IsCommand words (Gen copies) = IsGen words copies
 
 -- the words are no command
 pub record IsNoCommand (words : List (List ℕ)) : Type 0 where
   pub no_check : (source cert : List ℕ) → IsCheck words source cert → ⊥
   pub no_verify : (source cert : List ℕ) (leaf_count round_count : ℕ) → IsVerify words source cert leaf_count round_count → ⊥
   pub no_run : (source schedule : List ℕ) → IsRunCommand words source schedule → ⊥
+  pub no_gen : (copies : ℕ) → IsGen words copies → ⊥
 
 -- the command that the words are, or that they are none
 abbrev pub Reads : List (List ℕ) → Option Command → Type 0

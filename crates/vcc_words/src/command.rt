@@ -28,4 +28,6 @@ pub enum Command<'a> {
     Verify(Search<'a>),
     /// Replay a schedule on a source.
     Run(Pair<'a>),
+    /// Verify a source of so many copies: 1 to 50.
+    Gen(u32),
 }

@@ -3,6 +3,7 @@
 
 mod arguments;
 pub mod command;
+mod copies;
 mod names;
 mod read;
 mod search;

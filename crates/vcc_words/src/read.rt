@@ -6,6 +6,7 @@ ghost use Rattle.vcc_words.specs.Words.{Reads, texts};
 
 use crate::arguments::read_arguments;
 use crate::command::{Command, Search};
+use crate::copies::copy_count;
 use crate::names::named_pair;
 use crate::search::search_for;
 use std::alloc::{AllocError, Global};
@@ -38,6 +39,9 @@ pub fn read_command<'a>(
     }
     if let Some(pair) = named_pair(words, "run") {
         return Ok(Some(Command::Run(pair)));
+    }
+    if let Some(count) = copy_count(words) {
+        return Ok(Some(Command::Gen(count)));
     }
     Ok(None)
 }

@@ -17,7 +17,7 @@ const MOST_ROUNDS: u32 = 1_000;
 const USUAL_ROUNDS: u32 = 64;
 
 /// The number that the text is, within these bounds.
-fn number(text: &[u8], least: u32, most: u32) -> Option<u32>
+pub(crate) fn number(text: &[u8], least: u32, most: u32) -> Option<u32>
     ensures { MatchOption result ((n : ℕ) → IsNumber text.now least most n → ⊥) (IsNumber text.now least most) }
 {
     let number = parse_count(most, text)?;

@@ -1,7 +1,8 @@
 use Rattle.std.proofs.Common.{inl, inr}
 use Rattle.vcc_words.specs.Words.{texts}
 use Rattle.vcc_cli.specs.declared.refusal.Refusal.TheVariants.{OutOfMemory, Usage}
-use Rattle.vcc_cli.proofs.Commands.{accepted_command, complete_command, exact_command, is_command, is_none, kept_command, safe_command, verified_command, wanting_complete}
+use Rattle.vcc_cli.proofs.Commands.{accepted_command, complete_command, exact_command, generated_command, is_command, is_none, kept_command, safe_command, verified_command, wanting_complete}
+use Rattle.vcc_cli.proofs.Generating.{refusal_shows}
 use Rattle.vcc_cli.proofs.Verdicts.{no_zero}
 use Rattle.vcc_cli.proofs.main_call.vcc_main.Goals as goal
 
@@ -26,6 +27,11 @@ pub returns-in-Ok-Some-clause-verified : goal.returns-in-Ok-Some-clause-verified
 returns-in-Ok-Some-clause-verified g c = λ m given source cert leaves rounds verify zeroed.
     let command = c.in-Ok-Some.command in
     verified_command m (texts c.args.words.now) command _ source cert leaves rounds (is_command _ _ command c.in-Ok-Some.field-0-is c.in-Ok-Some.ensures) verify (c.run_command-status.ensures.shows m given zeroed)
+
+pub returns-in-Ok-Some-clause-generated : goal.returns-in-Ok-Some-clause-generated
+returns-in-Ok-Some-clause-generated g c = λ copies gen.
+    let command = c.in-Ok-Some.command in
+    generated_command (texts c.args.words.now) copies _ _ command (is_command _ _ command c.in-Ok-Some.field-0-is c.in-Ok-Some.ensures) gen c.run_command-status.ensures.generates
 
 pub returns-in-Ok-Some-clause-exact : goal.returns-in-Ok-Some-clause-exact
 returns-in-Ok-Some-clause-exact g c = λ m given.
@@ -52,6 +58,9 @@ returns-in-Ok-None-clause-complete g c = λ m given source cert accepted check n
 pub returns-in-Ok-None-clause-verified : goal.returns-in-Ok-None-clause-verified
 returns-in-Ok-None-clause-verified g c = λ m given source cert leaves rounds verify zeroed. absurd (no_zero Usage _ _ c.report-status.ensures.reported zeroed)
 
+pub returns-in-Ok-None-clause-generated : goal.returns-in-Ok-None-clause-generated
+returns-in-Ok-None-clause-generated g c = λ copies gen. refusal_shows copies Usage _ _ c.report-status.ensures.reported
+
 pub returns-in-Ok-None-clause-exact : goal.returns-in-Ok-None-clause-exact
 returns-in-Ok-None-clause-exact g c = λ m given.
     inl (record { none = is_none (texts c.args.words.now) _ c.in-Ok-None.field-0-is c.in-Ok-None.ensures; reported = c.report-status.ensures.reported })
@@ -70,5 +79,8 @@ returns-in-Err-clause-complete g c = λ m given source cert accepted check no_re
 pub returns-in-Err-clause-verified : goal.returns-in-Err-clause-verified
 returns-in-Err-clause-verified g c = λ m given source cert leaves rounds verify zeroed. absurd (no_zero OutOfMemory _ _ c.report-status-in-Err.ensures.reported zeroed)
 
+pub returns-in-Err-clause-generated : goal.returns-in-Err-clause-generated
+returns-in-Err-clause-generated g c = λ copies gen. refusal_shows copies OutOfMemory _ _ c.report-status-in-Err.ensures.reported
+
 pub returns-in-Err-clause-exact : goal.returns-in-Err-clause-exact
-returns-in-Err-clause-exact g c = λ m given. inr (inr (inr (inr c.report-status-in-Err.ensures.reported)))
+returns-in-Err-clause-exact g c = λ m given. inr (inr (inr (inr (inr c.report-status-in-Err.ensures.reported))))

@@ -1,0 +1,4 @@
+//! The source of `gen N`.
+#![tactic(auto)]
+
+pub mod source;
