@@ -1,6 +1,11 @@
 pub mod Words
 pub mod Pieces
-pub mod Walk
+pub mod Stages
+pub mod Turns
+pub mod Reader
+pub mod Views
+pub mod Matches
+pub mod Plain
 pub mod Parts
 pub mod Counts
 pub mod Copying

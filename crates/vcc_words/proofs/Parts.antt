@@ -1,16 +1,15 @@
 -- What `verify` is by its parts and what it is by its pieces.
-use Rattle.std.proofs.Common.{◌≡◌, ℕ, List, [], ◌∷◌, ◌++◌, map, flat_map, codes, Option, Some, None, refl, sym, ap, subst, ◌∙◌, inl, inr, MatchOption}
+use Rattle.std.proofs.Common.{arith, length, slice_index, ◌<◌, ◌≤◌, ◌^◌, suc, ◌≡◌, ℕ, List, [], ◌∷◌, ◌++◌, map, flat_map, codes, Option, Some, None, refl, sym, ap, subst, ◌∙◌, inl, inr, IfOk, Result}
 use Rattle.std.specs.Prelude.{decimal, option_to_list}
+use Rattle.decimal_text.proofs.Numbers.{decimal_leads}
+use Rattle.decimal_text.proofs.Words.{digit_least}
 use Rattle.vcc_words.specs.Words as w
-use Rattle.vcc_words.specs.Words.{IsName, IsSetting, IsVerify, spelling}
-use Rattle.vcc_words.specs.Arguments.{Piece, Name, Leaves, Rounds, Are, IsOption, names_in, leaves_in, rounds_in, text_of, AreArguments, AreNoArguments, AreThese, IsValue, Asks, AsksFor, AsksNothing, IsNoVerify, IsSearch}
+use Rattle.vcc_words.specs.Words.{IsName, IsNoCommand, IsSetting, IsVerify, Reads, spelling}
+use Rattle.vcc_words.specs.Arguments.{Piece, Name, Leaves, Rounds, Are, Every, IsOption, names_in, leaves_in, rounds_in, text_of, AreArguments, IsValue, Asks, IsNoVerify, Demands, ReadsArguments, ReadsSearch, Verifies}
 use Rattle.vcc_words.specs.declared.arguments.Arguments.{Arguments}
+use Rattle.vcc_words.specs.declared.command.Command.{Command}
 use Rattle.vcc_words.specs.declared.command.Search.{Search}
 use Rattle.vcc_words.proofs.Pieces.{are_one}
-
-abbrev Every : {X : Type 0} → (X → Type 0) → List X → Type 0
-Every P [] = Unit {0}
-Every P (x ∷ xs) = P x × Every P xs
 
 -- ---- from parts to pieces
 
@@ -21,14 +20,32 @@ piece (w.LeavesIs n) = Leaves (decimal n)
 piece (w.Rounds n) = Rounds (decimal n)
 piece (w.RoundsIs n) = Rounds (decimal n)
 
-are_pieces : (ps : List w.Part) → Every IsName (w.names ps) → Are (flat_map spelling ps) (map piece ps)
+-- a number is no option
+abbrev IsWide : ℕ → Type 0
+IsWide n = n < 10 ^ 64
+
+decimal_name : (n : ℕ) → IsWide n → IsName (decimal n)
+decimal_name n wide =
+    let d = decimal_leads n wide in
+    let first : slice_index (decimal n) 0 ≡ d.0 = ap (λ (t : List ℕ). slice_index t 0) d.2 in
+    let some : length (decimal n) ≡ suc (length d.1) = ap length d.2 in
+    (omega arith, λ e. omega (arith, digit_least d.0 d.3))
+
+are_pieces : (ps : List w.Part) → Every IsName (w.names ps) → Every IsWide (w.leaves ps) → Every IsWide (w.rounds ps) → Are (flat_map spelling ps) (map piece ps)
 unfolding piece
-are_pieces [] h = refl
-are_pieces (w.Name word ∷ ps) h = (flat_map spelling ps, (refl, h.0), are_pieces ps h.1)
-are_pieces (w.Leaves n ∷ ps) h = (flat_map spelling ps, inl refl, are_pieces ps h)
-are_pieces (w.LeavesIs n ∷ ps) h = (flat_map spelling ps, inr refl, are_pieces ps h)
-are_pieces (w.Rounds n ∷ ps) h = (flat_map spelling ps, inl refl, are_pieces ps h)
-are_pieces (w.RoundsIs n ∷ ps) h = (flat_map spelling ps, inr refl, are_pieces ps h)
+are_pieces [] h l r = refl
+are_pieces (w.Name word ∷ ps) h l r = (flat_map spelling ps, (refl, h.0), are_pieces ps h.1 l r)
+are_pieces (w.Leaves n ∷ ps) h l r = (flat_map spelling ps, inl (refl, decimal_name n l.0), are_pieces ps h l.1 r)
+are_pieces (w.LeavesIs n ∷ ps) h l r = (flat_map spelling ps, inr refl, are_pieces ps h l.1 r)
+are_pieces (w.Rounds n ∷ ps) h l r = (flat_map spelling ps, inl (refl, decimal_name n r.0), are_pieces ps h l r.1)
+are_pieces (w.RoundsIs n ∷ ps) h l r = (flat_map spelling ps, inr refl, are_pieces ps h l r.1)
+
+wide_of : (numbers : List ℕ) (least most default n : ℕ) → most ≤ 1000000 → IsSetting numbers least most default n → Every IsWide numbers
+wide_of numbers least most default n le s =
+    elim s [
+      | inl h ↦ subst (λ (ns : List ℕ). Every IsWide ns) (sym h.0) tt
+      | inr h ↦ let small : n < 10 ^ 64 = omega (arith, h.2) in subst (λ (ns : List ℕ). Every IsWide ns) (sym h.0) (small, tt)
+    ]
 
 names_same : (ps : List w.Part) → names_in (map piece ps) ≡ w.names ps
 unfolding piece
@@ -57,8 +74,8 @@ rounds_same (w.LeavesIs n ∷ ps) = rounds_same ps
 rounds_same (w.Rounds n ∷ ps) = ap (λ (ts : List (List ℕ)). decimal n ∷ ts) (rounds_same ps)
 rounds_same (w.RoundsIs n ∷ ps) = ap (λ (ts : List (List ℕ)). decimal n ∷ ts) (rounds_same ps)
 
-value_of : (given : List ℕ) (least most default n : ℕ) → IsSetting given least most default n → (t : Option (List ℕ)) × (map decimal given ≡ option_to_list t) × IsValue t least most default n
-value_of given least most default n s =
+value_of : (numbers : List ℕ) (least most default n : ℕ) → IsSetting numbers least most default n → (t : Option (List ℕ)) × (map decimal numbers ≡ option_to_list t) × IsValue t least most default n
+value_of numbers least most default n s =
     elim s [
       | inl h ↦ (None, ap (map decimal) h.0, h.1)
       | inr h ↦ (Some (decimal n), ap (map decimal) h.0, (refl, h.1, h.2))
@@ -82,7 +99,7 @@ split rest source cert l r v =
       rounds = rounds.0;
       arguments = record {
         pieces = map piece v.parts;
-        are = subst (λ (ws : List (List ℕ)). Are ws (map piece v.parts)) (sym same) (are_pieces v.parts good);
+        are = subst (λ (ws : List (List ℕ)). Are ws (map piece v.parts)) (sym same) (are_pieces v.parts good (wide_of (w.leaves v.parts) 1 1000000 100000 l (omega arith) v.leaves_set) (wide_of (w.rounds v.parts) 0 1000 64 r (omega arith) v.rounds_set));
         names = names_same v.parts ∙ v.named;
         leaves_once = leaves_same v.parts ∙ leaves.1;
         rounds_once = rounds_same v.parts ∙ rounds.1;
@@ -108,7 +125,7 @@ leaves_spelt ws rest t ps l r is e m =
     elim is [
       | inl a ↦ record {
         parts = w.Leaves l ∷ m.parts;
-        are = a ∙ ap (λ (x : List ℕ). codes "--leaves" ∷ x ∷ rest) e ∙ ap (λ (x : List (List ℕ)). codes "--leaves" ∷ decimal l ∷ x) m.are;
+        are = a.0 ∙ ap (λ (x : List ℕ). codes "--leaves" ∷ x ∷ rest) e ∙ ap (λ (x : List (List ℕ)). codes "--leaves" ∷ decimal l ∷ x) m.are;
         names = m.names;
         leaves = ap (λ (x : List ℕ). l ∷ x) m.leaves;
         rounds = m.rounds;
@@ -127,7 +144,7 @@ rounds_spelt ws rest t ps l r is e m =
     elim is [
       | inl a ↦ record {
         parts = w.Rounds r ∷ m.parts;
-        are = a ∙ ap (λ (x : List ℕ). codes "--rounds" ∷ x ∷ rest) e ∙ ap (λ (x : List (List ℕ)). codes "--rounds" ∷ decimal r ∷ x) m.are;
+        are = a.0 ∙ ap (λ (x : List ℕ). codes "--rounds" ∷ x ∷ rest) e ∙ ap (λ (x : List (List ℕ)). codes "--rounds" ∷ decimal r ∷ x) m.are;
         names = m.names;
         leaves = m.leaves;
         rounds = ap (λ (x : List ℕ). r ∷ x) m.rounds;
@@ -215,24 +232,25 @@ asks_one rest source cert s c leaves rounds lt rt l r a b q =
 
 -- ---- what `verify` is to search
 
-pub none_verify : (ws : List (List ℕ)) → ws ≡ [] → IsNoVerify ws
-none_verify ws e source cert l r v = let a = v.are in cc
+pub words_behind : (ws rest : List (List ℕ)) (word : List ℕ) → ws ≡ word ∷ rest → word ≡ codes "verify" → ws ≡ codes "verify" ∷ rest
+words_behind ws rest word e is = e ∙ ap (λ (x : List ℕ). x ∷ rest) is
 
-pub other_verify : (ws rest : List (List ℕ)) (word : List ℕ) → ws ≡ word ∷ rest → (word ≡ codes "verify" → ⊥) → IsNoVerify ws
-other_verify ws rest word e other source cert l r v = let a = v.are in other cc
-
-pub no_arguments : (ws rest : List (List ℕ)) (word : List ℕ) → ws ≡ word ∷ rest → word ≡ codes "verify" → AreNoArguments rest → IsNoVerify ws
-no_arguments ws rest word e is none source cert l r v =
-    let f : ws ≡ codes "verify" ∷ rest = e ∙ ap (λ (x : List ℕ). x ∷ rest) is in
-    let s = split rest source cert l r (subst (λ (x : List (List ℕ)). IsVerify x source cert l r) f v) in
-    none source cert s.leaves s.rounds s.arguments
-
-pub searches : (ws rest : List (List ℕ)) (word : List ℕ) (a : Arguments) (o : Option Search) → ws ≡ word ∷ rest → word ≡ codes "verify" → AreThese rest a → MatchOption o (AsksNothing a) (AsksFor a) → MatchOption o (IsNoVerify ws) (IsSearch ws)
-searches ws rest word a None e is these none = λ source cert l r v.
-    let f : ws ≡ codes "verify" ∷ rest = e ∙ ap (λ (x : List ℕ). x ∷ rest) is in
-    let s = split rest source cert l r (subst (λ (x : List (List ℕ)). IsVerify x source cert l r) f v) in
+-- by the arguments that the words behind `verify` are
+pub searches : (rest : List (List ℕ)) (a : Option Arguments) (o : Option Search) → ReadsArguments rest a → Demands a o → ReadsSearch (codes "verify" ∷ rest) o
+searches rest None None none asked = λ source cert l r v. let s = split rest source cert l r v in none source cert s.leaves s.rounds s.arguments
+searches rest None (Some x) none asked = absurd cc
+searches rest (Some a) None these none = λ source cert l r v.
+    let s = split rest source cert l r v in
     none l r (asks_one rest a.source.now a.cert.now source cert (text_of a.leaves) (text_of a.rounds) s.leaves s.rounds l r these s.arguments s.asks)
-searches ws rest word a (Some asked) e is these q =
-    let f : ws ≡ codes "verify" ∷ rest = e ∙ ap (λ (x : List ℕ). x ∷ rest) is in
-    let v = join rest a.source.now a.cert.now (text_of a.leaves) (text_of a.rounds) asked.leaves asked.rounds these q.asks in
-    subst (λ (x : List (List ℕ)). IsVerify x asked.source.now asked.cert.now asked.leaves asked.rounds) (sym f) (subst (λ (x : List ℕ). IsVerify (codes "verify" ∷ rest) asked.source.now x asked.leaves asked.rounds) (sym q.cert) (subst (λ (x : List ℕ). IsVerify (codes "verify" ∷ rest) x a.cert.now asked.leaves asked.rounds) (sym q.source) v))
+searches rest (Some a) (Some x) these q =
+    let v = join rest a.source.now a.cert.now (text_of a.leaves) (text_of a.rounds) x.leaves x.rounds these q.asks in
+    subst (λ (y : List ℕ). IsVerify (codes "verify" ∷ rest) x.source.now y x.leaves x.rounds) (sym q.cert) (subst (λ (y : List ℕ). IsVerify (codes "verify" ∷ rest) y a.cert.now x.leaves x.rounds) (sym q.source) v)
+
+-- a search behind `verify` is one of all words
+pub as_verify : {E : Type 0} (ws rest : List (List ℕ)) (r : Result (Option Search) E) → ws ≡ codes "verify" ∷ rest → IfOk r (ReadsSearch (codes "verify" ∷ rest)) → IfOk r (ReadsSearch ws)
+as_verify ws rest r e h = subst (λ (x : List (List ℕ)). IfOk r (ReadsSearch x)) (sym e) h
+
+-- the command of a search that is read last
+pub reads_last : (ws : List (List ℕ)) (o : Option Search) (r : Option Command) → ReadsSearch ws o → Verifies o r → (IsNoVerify ws → IsNoCommand ws) → Reads ws r
+reads_last ws None r none is others = subst (Reads ws) (sym is) (others none)
+reads_last ws (Some search) r verify is others = subst (Reads ws) (sym is) verify

@@ -1,13 +1,10 @@
 -- What stands behind the word `verify`, as texts: names, and options with the texts of their numbers. Own.
-use Rattle.std.specs.Prelude.{◌≡◌, ◌≢◌, ◌⊎◌, ℕ, ◌<◌, ◌≤◌, List, [], ◌∷◌, ◌++◌, length, Option, Some, None, option_map, option_to_list, codes, decimal}
+use Rattle.std.specs.Prelude.{◌≡◌, ◌≢◌, ◌⊎◌, ℕ, ◌≤◌, List, [], ◌∷◌, ◌++◌, length, slice_index, Option, Some, None, MatchOption, option_map, option_to_list, codes, decimal}
 use Rattle.std.specs.Borrow.{Bor}
 use Rattle.vcc_words.specs.Words.{IsName, IsVerify}
-use Rattle.vcc_words.specs.declared.arguments.Argument as code
-use Rattle.vcc_words.specs.declared.arguments.Argument.TheVariants as argument
 use Rattle.vcc_words.specs.declared.arguments.Arguments.{Arguments}
-use Rattle.vcc_words.specs.declared.arguments.Names.{Names}
-use Rattle.vcc_words.specs.declared.arguments.Names.TheVariants.{Neither, Source, Both}
-use Rattle.vcc_words.specs.declared.arguments.SoFar.{SoFar}
+use Rattle.vcc_words.specs.declared.command.Command.{Command}
+use Rattle.vcc_words.specs.declared.command.Command.TheVariants.{Verify}
 use Rattle.vcc_words.specs.declared.command.Search.{Search}
 
 -- ---- arguments
@@ -18,21 +15,15 @@ pub data Piece : Type 0 where
   Leaves : List ℕ → Piece
   Rounds : List ℕ → Piece
 
--- the words begin with the option and its text, in two words or in one
+-- the words begin with the option and its text, in two words or in one; in two the text doesn't begin with `-`
 abbrev pub IsOption : List ℕ → List (List ℕ) → List ℕ → List (List ℕ) → Type 0
-IsOption option words text rest = (words ≡ option ∷ text ∷ rest) ⊎ (words ≡ (option ++ 61 ∷ text) ∷ rest)
-
-abbrev pub HasNoOption : List ℕ → List (List ℕ) → Type 0
-HasNoOption option words = (text : List ℕ) (rest : List (List ℕ)) → IsOption option words text rest → ⊥
+IsOption option words text rest = ((words ≡ option ∷ text ∷ rest) × IsName text) ⊎ (words ≡ (option ++ 61 ∷ text) ∷ rest)
 
 -- the words begin with the piece, and the rest stands behind it
 abbrev pub Begins : List (List ℕ) → Piece → List (List ℕ) → Type 0
 Begins words (Name word) rest = (words ≡ word ∷ rest) × IsName word
 Begins words (Leaves text) rest = IsOption (codes "--leaves") words text rest
 Begins words (Rounds text) rest = IsOption (codes "--rounds") words text rest
-
-abbrev pub BeginsNothing : List (List ℕ) → Type 0
-BeginsNothing words = (piece : Piece) (rest : List (List ℕ)) → Begins words piece rest → ⊥
 
 -- the words are these pieces
 abbrev pub Are : List (List ℕ) → List Piece → Type 0
@@ -73,48 +64,44 @@ abbrev pub AreNoArguments : List (List ℕ) → Type 0
 AreNoArguments words =
     (source cert : List ℕ) (leaves rounds : Option (List ℕ)) → AreArguments words source cert leaves rounds → ⊥
 
+-- ---- words that may stand among arguments
+
+abbrev pub Every : {X : Type 0} → (X → Type 0) → List X → Type 0
+Every P [] = Unit {0}
+Every P (x ∷ xs) = P x × Every P xs
+
+-- nothing, or `=` and a text
+abbrev pub IsEnd : List ℕ → Type 0
+IsEnd more = (length more ≡ 0) ⊎ (slice_index more 0 ≡ 61)
+
+-- the word is the option, alone or with `=` and a text
+abbrev pub IsOptionWord : List ℕ → List ℕ → Type 0
+IsOptionWord option word = (word ≡ option) ⊎ ((text : List ℕ) × (word ≡ option ++ 61 ∷ text))
+
+-- the word is a name or one of the options
+abbrev pub IsPlain : List ℕ → Type 0
+IsPlain word = IsName word ⊎ IsOptionWord (codes "--leaves") word ⊎ IsOptionWord (codes "--rounds") word
+
 -- ---- what the code holds of them
 
 abbrev pub text_of : Option (Bor (List ℕ)) → Option (List ℕ)
 text_of = option_map (λ text. text.now)
 
-abbrev pub piece_of : code.Argument → Piece
-piece_of (argument.Name word) = Name word.now
-piece_of (argument.Leaves text) = Leaves text.now
-piece_of (argument.Rounds text) = Rounds text.now
-
--- the names that are there, in their order
-abbrev pub names_of : Names → List (List ℕ)
-names_of Neither = []
-names_of (Source source) = source.now ∷ []
-names_of (Both source cert) = source.now ∷ cert.now ∷ []
-
-abbrev pub leaves_of : SoFar → List (List ℕ)
-leaves_of so_far = option_to_list (text_of so_far.leaves)
-
-abbrev pub rounds_of : SoFar → List (List ℕ)
-rounds_of so_far = option_to_list (text_of so_far.rounds)
-
--- next has what so_far has, and then the piece
-pub record Adds (so_far : SoFar) (piece : Piece) (next : SoFar) : Type 0 where
-  pub names : names_of next.names ≡ names_of so_far.names ++ names_in (piece ∷ [])
-  pub leaves : leaves_of next ≡ leaves_of so_far ++ leaves_in (piece ∷ [])
-  pub rounds : rounds_of next ≡ rounds_of so_far ++ rounds_in (piece ∷ [])
-
--- with the piece there is a third name, or an option a second time
-abbrev pub IsTooMuch : SoFar → Piece → Type 0
-IsTooMuch so_far piece =
-    (2 < length (names_of so_far.names ++ names_in (piece ∷ []))) ⊎ (1 < length (leaves_of so_far ++ leaves_in (piece ∷ [])))
-    ⊎ (1 < length (rounds_of so_far ++ rounds_in (piece ∷ [])))
-
--- the arguments are all that so_far has, with its two names
-abbrev pub IsWhole : SoFar → Arguments → Type 0
-IsWhole so_far a =
-    (names_of so_far.names ≡ a.source.now ∷ a.cert.now ∷ []) × (a.leaves ≡ so_far.leaves) × (a.rounds ≡ so_far.rounds)
-
 -- the words are these arguments
 abbrev pub AreThese : List (List ℕ) → Arguments → Type 0
 AreThese words a = AreArguments words a.source.now a.cert.now (text_of a.leaves) (text_of a.rounds)
+
+-- the arguments that texts by name are; none where a name isn't there
+abbrev pub HasTexts : (List ℕ → Option (List ℕ)) → Option Arguments → Type 0
+HasTexts text None = (text (codes "source") ≡ None) ⊎ (text (codes "cert") ≡ None)
+HasTexts text (Some a) =
+    (text (codes "source") ≡ Some a.source.now) × (text (codes "cert") ≡ Some a.cert.now)
+    × (text (codes "leaves") ≡ text_of a.leaves) × (text (codes "rounds") ≡ text_of a.rounds)
+
+-- the arguments that the words are, or that they are none
+abbrev pub ReadsArguments : List (List ℕ) → Option Arguments → Type 0
+ReadsArguments words None = AreNoArguments words
+ReadsArguments words (Some a) = AreThese words a
 
 -- ---- numbers
 
@@ -144,6 +131,11 @@ abbrev pub AsksNothing : Arguments → Type 0
 AsksNothing a =
     (leaf_count round_count : ℕ) → Asks a.source.now a.cert.now (text_of a.leaves) (text_of a.rounds) leaf_count round_count → ⊥
 
+-- what the arguments ask to be searched; where there are none, nothing
+abbrev pub Demands : Option Arguments → Option Search → Type 0
+Demands None r = r ≡ None
+Demands (Some a) r = MatchOption r (AsksNothing a) (AsksFor a)
+
 -- ---- the command `verify`
 
 abbrev pub IsNoVerify : List (List ℕ) → Type 0
@@ -152,3 +144,13 @@ IsNoVerify words =
 
 abbrev pub IsSearch : List (List ℕ) → Search → Type 0
 IsSearch words search = IsVerify words search.source.now search.cert.now search.leaves search.rounds
+
+-- what is to be searched by the words, or that they aren't `verify` with its arguments
+abbrev pub ReadsSearch : List (List ℕ) → Option Search → Type 0
+ReadsSearch words None = IsNoVerify words
+ReadsSearch words (Some search) = IsSearch words search
+
+-- the command of a search; where there is none, none
+abbrev pub Verifies : Option Search → Option Command → Type 0
+Verifies None r = r ≡ None
+Verifies (Some search) r = r ≡ Some (Verify search)

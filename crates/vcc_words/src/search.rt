@@ -1,7 +1,7 @@
 //! What `verify` is to search.
 
 ghost use Rattle.std.specs.Prelude.{ℕ, ◌≤◌, MatchOption};
-ghost use Rattle.vcc_words.specs.Arguments.{AsksFor, AsksNothing, IsNumber, IsValue, text_of};
+ghost use Rattle.vcc_words.specs.Arguments.{AsksFor, AsksNothing, IsNumber, IsValue, Demands, text_of};
 
 use crate::arguments::Arguments;
 use crate::command::Search;
@@ -53,4 +53,14 @@ pub(crate) fn search_for<'a>(arguments: Arguments<'a>) -> Option<Search<'a>>
         leaves,
         rounds,
     })
+}
+
+/// What the arguments ask to be searched, where they are there.
+pub(crate) fn search_of<'a>(arguments: Option<Arguments<'a>>) -> Option<Search<'a>>
+    ensures { Demands arguments.entry result }
+{
+    match arguments {
+        Some(arguments) => search_for(arguments),
+        None => None,
+    }
 }
