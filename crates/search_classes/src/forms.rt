@@ -51,6 +51,24 @@ impl Form {
         Ok(())
     }
 
+    /// How many times the unit is part of the sum.
+    pub(crate) fn factor_of(&self, unit: u32) -> i128 {
+        for part in self.parts.as_slice() {
+            if part.unit == unit {
+                return part.factor;
+            }
+        }
+        0
+    }
+
+    /// Adds a multiple of the parts of another sum.
+    pub(crate) fn add_form(&mut self, other: &Form, factor: i128) -> Result<(), Stop> {
+        for part in other.parts.as_slice() {
+            self.add_unit(part.unit, product(part.factor, factor)?)?;
+        }
+        Ok(())
+    }
+
     /// The unit of the part at a place.
     fn unit_at(&self, place: usize) -> Option<u32> {
         match self.parts.get(place) {

@@ -12,7 +12,8 @@ use std::alloc::{AllocError, Global};
 use terms::term::Kind;
 
 /// The equation of a sum whose value isn't whole and the whole number below it, where a unit's value isn't. The sum is
-/// that of the parts of a true equation whose factors one of them divides, divided by it; else it is a unit.
+/// that of the parts of a row whose factors one of them divides, divided by it, or a unit where no row has two such
+/// parts. Rows are the true equations of integers, and what two of them give that takes a unit away.
 pub(crate) fn first_gap(
     ledger: &mut Ledger<'_>,
     classes: &Classes,
@@ -22,35 +23,104 @@ pub(crate) fn first_gap(
     let Some(unit) = values.first_gap() else {
         return Ok(None);
     };
-    for place in 0..trail.len() {
-        if let Some(equation) = gap_at(ledger, classes, trail, values, place)? {
-            return Ok(Some(equation));
-        }
+    let rows = rows_of(ledger, classes, trail)?;
+    let mut gap = gap_in_rows(ledger, classes, values, rows.as_slice())?;
+    if gap.is_none() {
+        gap = gap_in_pairs(ledger, classes, values, rows.as_slice())?;
     }
-    let part = Monomial { unit, factor: 1 };
-    gap_of(ledger, classes, values, &[part])
+    if gap.is_none() {
+        gap = gap_of(ledger, classes, values, &[Monomial { unit, factor: 1 }])?;
+    }
+    Ok(gap)
 }
 
-/// The same of the literal at a place, where it is a true equation of integers.
-fn gap_at(
+/// The true equations of integers, over classes.
+fn rows_of(ledger: &Ledger<'_>, classes: &Classes, trail: &Trail) -> Result<Vec<Form>, Stop> {
+    let mut rows = Vec::new(ledger.alloc);
+    for place in 0..trail.len() {
+        if let Some(literal) = trail.literal(place) {
+            if literal.positive && ledger.is_int_equation(literal.term) {
+                let mut form = Form::new(ledger.alloc);
+                form.add_bound(ledger, literal, 1)?;
+                rows.push(form.over_classes(ledger, classes)?)?;
+            }
+        }
+    }
+    Ok(rows)
+}
+
+/// Whether the value of a unit of these parts isn't whole.
+fn has_gap(values: &Values, parts: &[Monomial]) -> bool {
+    for part in parts {
+        if values.of(part.unit).bottom() > 1 {
+            return true;
+        }
+    }
+    false
+}
+
+/// The equation at which a row is to be split.
+fn gap_in_rows(
     ledger: &mut Ledger<'_>,
     classes: &Classes,
-    trail: &Trail,
     values: &Values,
-    place: usize,
+    rows: &[Form],
 ) -> Result<Option<u32>, Stop> {
-    match trail.literal(place) {
-        Some(literal) if literal.positive && ledger.is_int_equation(literal.term) => {
-            let mut form = Form::new(ledger.alloc);
-            form.add_bound(ledger, literal, 1)?;
-            let over = form.over_classes(ledger, classes)?;
-            gap_in(ledger, classes, values, over.parts.as_slice())
+    for row in rows {
+        if has_gap(values, row.parts.as_slice()) {
+            let gap = gap_in(ledger, classes, values, row.parts.as_slice())?;
+            if gap.is_some() {
+                return Ok(gap);
+            }
         }
-        _ => Ok(None),
     }
+    Ok(None)
 }
 
-/// The same of parts that come to a whole number.
+/// The equation at which what two rows give is to be split.
+fn gap_in_pairs(
+    ledger: &mut Ledger<'_>,
+    classes: &Classes,
+    values: &Values,
+    rows: &[Form],
+) -> Result<Option<u32>, Stop> {
+    for row in rows {
+        if has_gap(values, row.parts.as_slice()) {
+            let pairs = pairs_of(ledger.alloc, row, rows)?;
+            let gap = gap_in_rows(ledger, classes, values, pairs.as_slice())?;
+            if gap.is_some() {
+                return Ok(gap);
+            }
+        }
+    }
+    Ok(None)
+}
+
+/// What a row gives with each of the others.
+fn pairs_of(alloc: Global, row: &Form, others: &[Form]) -> Result<Vec<Form>, Stop> {
+    let mut pairs = Vec::new(alloc);
+    for other in others {
+        add_pairs(alloc, row, other, &mut pairs)?;
+    }
+    Ok(pairs)
+}
+
+/// Adds what a row gives with another for each unit of both that the other has once: that unit is gone.
+fn add_pairs(alloc: Global, row: &Form, other: &Form, pairs: &mut Vec<Form>) -> Result<(), Stop> {
+    for part in other.parts.as_slice() {
+        let factor = row.factor_of(part.unit);
+        if factor != 0 && (part.factor == 1 || part.factor == -1) {
+            let multiple = product(factor, product(part.factor, -1)?)?;
+            let mut pair = Form::new(alloc);
+            pair.add_form(row, 1)?;
+            pair.add_form(other, multiple)?;
+            pairs.push(pair)?;
+        }
+    }
+    Ok(())
+}
+
+/// The equation at which the parts of a row are to be split.
 fn gap_in(
     ledger: &mut Ledger<'_>,
     classes: &Classes,
@@ -60,9 +130,11 @@ fn gap_in(
     for part in parts {
         if part.factor > 1 || part.factor < -1 {
             let shares = multiples_of(ledger.alloc, parts, part.factor)?;
-            let gap = gap_of(ledger, classes, values, shares.as_slice())?;
-            if gap.is_some() {
-                return Ok(gap);
+            if shares.len() > 1 {
+                let gap = gap_of(ledger, classes, values, shares.as_slice())?;
+                if gap.is_some() {
+                    return Ok(gap);
+                }
             }
         }
     }
