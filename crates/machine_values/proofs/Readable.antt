@@ -50,3 +50,7 @@ pub stable_test : (p : Program) (t : Ref) (stored : List Stored) (y found : List
 stable_test p t stored y found o members finite = alike (is_in o found) (in_stable_set p t (heap_at y stored) o)
     (λ m. (stable_set_law p t (heap_at y stored) finite o).1 (stable_at p t stored (heap_of stored).support y o ((members o).0 m)))
     (λ m. (members o).1 (stable_at p t stored y (heap_of stored).support o ((stable_set_law p t (heap_at y stored) finite o).0 m)))
+
+-- the same of an object that is in the set
+pub stable_owned : (p : Program) (t : Ref) (stored : List Stored) (y : List Ref) (o : Ref) → InStableSet p t (heap_of stored) o → IsFinite (heap_at y stored) → true ≡ in_stable_set p t (heap_at y stored) o
+stable_owned p t stored y o s finite = sym ((stable_set_law p t (heap_at y stored) finite o).1 (stable_at p t stored (heap_of stored).support y o s))

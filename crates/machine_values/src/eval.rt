@@ -17,7 +17,7 @@ use method::program::{CheckKind, Comparison, Expr, Operator};
 use object_types::heap::Heap;
 use object_types::references::{NULL, Ref};
 use object_types::values::Value;
-use ownership::stable::stable_set;
+use ownership::stable::{is_stable_by_owners, stable_set};
 use ownership::status::mutable;
 use std::alloc::{AllocError, Global};
 
@@ -39,6 +39,9 @@ pub fn is_readable(
     }
     if is_volatile(at.program, field) {
         return Ok(false);
+    }
+    if is_stable_by_owners(at.program, heap, at.context.me, o) {
+        return Ok(true);
     }
     let stable = stable_set(alloc, at.program, heap, at.context.me)?;
     Ok(contains(&stable, o))

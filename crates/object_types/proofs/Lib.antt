@@ -1,5 +1,7 @@
 pub mod Orders
 pub mod Placed
+pub mod Splits
+pub mod Searches
 pub mod Rows
 pub mod Members
 pub mod Entries

@@ -15,10 +15,6 @@ place_from_point p (x ∷ xs) zero h point = rw (point.1 0 x (omega arith) (omeg
 place_from_point p (x ∷ xs) (suc i) h point =
     rw (point.0 0 x (omega arith) (omega arith)) (ap suc (place_from_point p xs i (omega arith) (λ k d low high. point.0 (suc k) d (omega arith) (omega arith), λ k d low high. point.1 (suc k) d (omega arith) (omega arith))))
 
-pub place-le-length : {X : Type 0} (p : X → Bool) (xs : List X) → place p xs ≤ length xs
-place-le-length p [] = omega arith
-place-le-length p (x ∷ xs) = elim (p x) as (λ b. cond b (suc (place p xs)) 0 ≤ suc (length xs)) [ true ↦ omega (arith, place-le-length p xs) | false ↦ omega arith ]
-
 pub every_filter : {X : Type 0} (test keep : X → Bool) (xs : List X) → every test xs ≡ true → every test (filter keep xs) ≡ true
 every_filter test keep [] h = refl
 every_filter test keep (x ∷ xs) h =
@@ -276,32 +272,6 @@ module _ {X K : Type 0} (key : X → K) (before same : K → K → Bool) (o : Is
 
   pub none_behind_first : (x : X) (xs : List X) → is_ordered key_lt (x ∷ xs) ≡ true → at_key (key x) xs ≡ None
   none_behind_first x xs h = above_all (key x) x xs (λ z up. up) h
-
-  pub below_place : (k : K) (xs : List X) (j : ℕ) (d : X) → j < place (below k) xs → before (key (get_or xs j d)) k ≡ true
-  below_place k [] j d l = absurd (omega arith)
-  below_place k (x ∷ xs) zero d l =
-      elim (before (key x) k) as (λ b. before (key x) k ≡ b → 0 < cond b (suc (place (below k) xs)) 0 → before (key x) k ≡ true) [ true ↦ λ e m. e | false ↦ λ e m. absurd (omega arith) ] refl l
-  below_place k (x ∷ xs) (suc j) d l =
-      let next : j < place (below k) xs → before (key (get_or xs j d)) k ≡ true = below_place k xs j d in
-      elim (before (key x) k) as (λ b. suc j < cond b (suc (place (below k) xs)) 0 → before (key (get_or xs j d)) k ≡ true) [ true ↦ λ m. next (omega arith) | false ↦ λ m. absurd (omega arith) ] l
-
-  pub above_place : (k : K) (xs : List X) (j : ℕ) (d : X) → is_ordered key_lt xs ≡ true → place (below k) xs ≤ j → j < length xs → before (key (get_or xs j d)) k ≡ false
-  above_place k [] j d h l m = absurd (omega arith)
-  above_place k (x ∷ xs) zero d h l m =
-      elim (before (key x) k) as (λ b. before (key x) k ≡ b → cond b (suc (place (below k) xs)) 0 ≤ 0 → before (key x) k ≡ false) [ true ↦ λ e n. absurd (omega arith) | false ↦ λ e n. e ] refl l
-  above_place k (x ∷ xs) (suc j) d h l m =
-      let next : place (below k) xs ≤ j → j < length xs → before (key (get_or xs j d)) k ≡ false = above_place k xs j d (tail_ordered x xs h) in
-      let up = after_first x xs j d h (omega arith) in
-      elim (before (key x) k) as (λ b. before (key x) k ≡ b → cond b (suc (place (below k) xs)) 0 ≤ suc j → before (key (get_or xs j d)) k ≡ false) [
-        | true ↦ λ e n. next (omega arith) (omega arith)
-        | false ↦ λ e n. false_from_ne_true _ (λ under. both_ways _ e (o.chain _ _ _ up under))
-      ] refl l
-
-  -- what stands in the list is what a look-up of its key finds
-  pub own_at : (xs : List X) (i : ℕ) (d : X) → is_ordered key_lt xs ≡ true → i < length xs → at_key (key (get_or xs i d)) xs ≡ Some (get_or xs i d)
-  own_at [] i d h l = absurd (omega arith)
-  own_at (x ∷ xs) zero d h l = rw (o.itself (key x)) refl
-  own_at (x ∷ xs) (suc i) d h l = rw (apart_turned before same o _ _ (after_first x xs i d h (omega arith))) (own_at xs i d (tail_ordered x xs h) (omega arith))
 
 module _ {X : Type 0} (before same : X → X → Bool) (o : IsOrder before same) where
   pub placed_is_replaced : (x : X) (xs : List X) → placed before same x xs ≡ replaced (λ y. y) before same x xs

@@ -1,24 +1,25 @@
 -- What a heap's list has and lacks: the first record that says something, the newest object of a type.
-use Rattle.std.proofs.Common.{◌≡◌, ◌≢◌, ℕ, suc, ◌+◌, ◌-◌, ◌<◌, ◌≤◌, ◌^◌, ◌⊎◌, inl, inr, true, false, cond, ◌&&◌, ◌==◌, List, [], ◌∷◌, length, get_or, Some, refl, sym, ap, subst, ◌∙◌, arith, pos}
-use Rattle.std.specs.Prelude.{nat_lt}
+use Rattle.std.proofs.Common.{◌≡◌, ℕ, suc, ◌+◌, ◌-◌, ◌<◌, ◌≤◌, ◌^◌, inl, inr, Bool, true, false, not, cond, ◌&&◌, ◌==◌, List, [], ◌∷◌, length, Option, Some, None, refl, sym, ap, subst, ◌∙◌, arith, pos, Bor}
+use Rattle.std.specs.Prelude.{nat_lt, is_some, IfSome, IfNone}
 use Rattle.std.specs.List.{find}
-use Rattle.std.proofs.lemmas.Bool.{both_ways, cases_lt, and_parts, and_from, or_cases, or_right, eqb-true, eq-eqb, ltb-true, lt-ltb}
+use Rattle.std.specs.Option.{option_or, option_map, option_copied, unwrap_or}
+use Rattle.std.proofs.lemmas.Bool.{both_ways, cases_lt, and_parts, and_from, or_right, not-true, not_from_false, false_from_ne_true, eqb-true, eq-eqb, ltb-true, lt-ltb}
 use Rattle.object_types.specs.declared.references.Ref.{Ref}
 use Rattle.object_types.specs.declared.records.Mode.{Mode}
 use Rattle.object_types.specs.declared.records.Mode.TheVariants.{Absent, Open, Closed, Freed}
 use Rattle.object_types.specs.declared.records.Stored.{Stored}
 use Rattle.object_types.specs.References.{ref, null, same_ref, is_null, ref_lt}
 use Rattle.object_types.specs.Values.{is_zero_int}
-use Rattle.object_types.specs.Places.{place}
+use Rattle.object_types.specs.Places.{is_ordered}
+use Rattle.object_types.specs.Sets.{every}
 use Rattle.object_types.specs.Heap.{Record, nothing, is_absent}
 use Rattle.object_types.specs.Fields.{field_in}
-use Rattle.object_types.specs.Lookups.{reference_of, record_of, record_or_nothing, look_up, is_tidy, is_blank, IsKept}
+use Rattle.object_types.specs.Lookups.{reference_of, serial_of, stored_lt, record_of, record_or_nothing, look_up, is_tidy, is_blank, says_from, is_present, IsKept}
+use Rattle.object_types.specs.Trees.{stored_at, first_from, find_last, newest_of}
 use Rattle.object_types.specs.Content.{IsFirst, IsFresh, IsNewest}
-use Rattle.object_types.proofs.Orders.{ref_order, int_order, not_before_itself}
-use Rattle.object_types.proofs.Placed.{place-le-length, earlier_below, below_place, above_place, own_at}
+use Rattle.object_types.proofs.Orders.{ref_order, int_order}
+use Rattle.object_types.proofs.Placed.{tail_ordered, none_before_first, none_behind_first}
 use Rattle.object_types.proofs.FieldChanges.{none_kept}
-use Rattle.object_types.proofs.HeapChanges.{every_at}
-use Rattle.object_types.proofs.Equal.{any_default}
 
 absent_is : (m : Mode) → is_absent m ≡ true → m ≡ Absent
 absent_is Absent h = refl
@@ -58,182 +59,236 @@ nothing_is_blank s h =
     let shapes : s.shapes ≡ [] = ap (λ (r : Record). r.shapes) h in
     rw (mode, owner, count, owned, fields, listed, shapes) (rw (ref_order.itself null) refl)
 
--- what holds of nothing and of each record with the reference holds of what a look-up gives
-look_up_by : (Q : Record → Type 0) (q : Ref) (ss : List Stored) → Q nothing → ((j : ℕ) (d : Stored) → j < length ss → same_ref q (get_or ss j d).reference ≡ true → Q (record_of (get_or ss j d))) → Q (look_up ss q)
-look_up_by Q q [] n each = n
-look_up_by Q q (s ∷ ss) n each =
-    let rest : Q (look_up ss q) = look_up_by Q q ss n (λ j d l same. each (suc j) d (omega arith) same) in
+no_some : {X : Type 0} (x : X) → ◌≡◌ {A = Option X} None (Some x) → ⊥
+no_some x h = both_ways true (sym (ap is_some h)) refl
+
+some_is : {X : Type 0} (x y : X) → ◌≡◌ {A = Option X} (Some x) (Some y) → x ≡ y
+some_is x y h = ap (λ o. unwrap_or o x) h
+
+-- no element passes
+abbrev none_passes : {X : Type 0} → (X → Bool) → List X → Bool
+none_passes passes xs = every (λ x. not (passes x)) xs
+
+find_none : {X : Type 0} (passes : X → Bool) (xs : List X) → find passes xs ≡ None → none_passes passes xs ≡ true
+find_none passes [] h = refl
+find_none {X} passes (x ∷ xs) h =
+    elim (passes x) as (λ b. ◌≡◌ {A = Option X} (cond b (Some x) (find passes xs)) None → (not b && none_passes passes xs) ≡ true) [
+      | true ↦ λ n. absurd (no_some x (sym n))
+      | false ↦ λ n. find_none passes xs n
+    ] h
+
+find_last_none : {X : Type 0} (passes : X → Bool) (xs : List X) → find_last passes xs ≡ None → none_passes passes xs ≡ true
+find_last_none passes [] h = refl
+find_last_none {X} passes (x ∷ xs) h =
+    let rest : find_last passes xs ≡ None → none_passes passes xs ≡ true = λ e. find_last_none passes xs e in
+    elim (find_last passes xs) as (λ o. find_last passes xs ≡ o → option_or o (cond (passes x) (Some x) None) ≡ None → (not (passes x) && none_passes passes xs) ≡ true) [
+      | None ↦ λ e n. elim (passes x) as (λ b. ◌≡◌ {A = Option X} (cond b (Some x) None) None → (not b && none_passes passes xs) ≡ true) [
+        | true ↦ λ m. absurd (no_some x (sym m))
+        | false ↦ λ m. rest e
+      ] n
+      | Some y ↦ λ e n. absurd (no_some y (sym n))
+    ] refl h
+
+pub find_passes : {X : Type 0} (passes : X → Bool) (xs : List X) (y : X) → find passes xs ≡ Some y → passes y ≡ true
+find_passes passes [] y h = absurd (no_some y h)
+find_passes {X} passes (x ∷ xs) y h =
+    elim (passes x) as (λ b. passes x ≡ b → ◌≡◌ {A = Option X} (cond b (Some x) (find passes xs)) (Some y) → passes y ≡ true) [
+      | true ↦ λ e n. subst (λ z. passes z ≡ true) (some_is x y n) e
+      | false ↦ λ e n. find_passes passes xs y n
+    ] refl h
+
+pub find_every : {X : Type 0} (test passes : X → Bool) (xs : List X) (y : X) → every test xs ≡ true → find passes xs ≡ Some y → test y ≡ true
+find_every test passes [] y t h = absurd (no_some y h)
+find_every {X} test passes (x ∷ xs) y t h =
+    let parts = and_parts (test x) (every test xs) t in
+    elim (passes x) as (λ b. ◌≡◌ {A = Option X} (cond b (Some x) (find passes xs)) (Some y) → test y ≡ true) [
+      | true ↦ λ n. subst (λ z. test z ≡ true) (some_is x y n) parts.0
+      | false ↦ λ n. find_every test passes xs y parts.1 n
+    ] h
+
+-- what holds of nothing and of each record with the reference holds of what a look-up gives; all records pass the test
+look_up_by : (Q : Record → Type 0) (test : Stored → Bool) (q : Ref) (ss : List Stored) → every test ss ≡ true → Q nothing → ((s : Stored) → s.reference ≡ q → test s ≡ true → Q (record_of s)) → Q (look_up ss q)
+look_up_by Q test q [] h n each = n
+look_up_by Q test q (s ∷ ss) h n each =
+    let parts = and_parts (test s) (every test ss) h in
+    let rest : Q (look_up ss q) = look_up_by Q test q ss parts.1 n each in
     elim (same_ref q s.reference) as (λ b. same_ref q s.reference ≡ b → Q (record_or_nothing (cond b (Some s) (find (λ t. same_ref q t.reference) ss)))) [
-      | true ↦ λ e. each 0 s (omega arith) e
+      | true ↦ λ e. each s (sym (ref_order.equal _ _ e)) parts.0
       | false ↦ λ e. rest
     ] refl
 
-pub look_up_own : (ss : List Stored) (i : ℕ) (s : Stored) → IsKept ss → i < length ss → s ≡ get_or ss i s → look_up ss s.reference ≡ record_of s
-look_up_own ss i s k l e =
-    subst (λ (t : Stored). look_up ss t.reference ≡ record_of t) (sym e) (ap record_or_nothing (own_at reference_of ref_lt same_ref ref_order ss i s k.ordered l))
+look_up_head : (x : Stored) (xs : List Stored) → look_up (x ∷ xs) x.reference ≡ record_of x
+look_up_head x xs = rw (ref_order.itself x.reference) refl
 
-abbrev place_of : List Stored → Ref → ℕ
-place_of ss r = place (λ y. ref_lt (reference_of y) r) ss
+look_up_other : (x : Stored) (xs : List Stored) (q : Ref) → same_ref q x.reference ≡ false → look_up (x ∷ xs) q ≡ look_up xs q
+look_up_other x xs q h = rw h refl
 
--- the records from the place of `from` up to i say nothing
-pub record Searched (ss : List Stored) (from : Ref) (i : ℕ) : Type 0 where
-  pub start : place_of ss from ≤ i
-  pub blank : (k : ℕ) (d : Stored) → place_of ss from ≤ k → k < i → is_blank (get_or ss k d) ≡ true
+before_head : (x : Stored) (xs : List Stored) (q : Ref) → is_ordered stored_lt (x ∷ xs) ≡ true → ref_lt q x.reference ≡ true → look_up (x ∷ xs) q ≡ nothing
+before_head x xs q k l = ap record_or_nothing (none_before_first reference_of ref_lt same_ref ref_order q x xs k l)
 
-pub searched_start : (ss : List Stored) (from : Ref) (i : ℕ) → i ≡ place_of ss from → Searched ss from i
-searched_start ss from i e = record { start = omega arith; blank = λ k d l m. absurd (omega arith) }
+once : (x : Stored) (xs : List Stored) → is_ordered stored_lt (x ∷ xs) ≡ true → look_up xs x.reference ≡ nothing
+once x xs k = ap record_or_nothing (none_behind_first reference_of ref_lt same_ref ref_order x xs k)
 
-pub searched_next : (ss : List Stored) (from : Ref) (i : ℕ) (s : Stored) → Searched ss from i → i < length ss → s ≡ get_or ss i s → is_blank s ≡ true → Searched ss from (i + 1)
-searched_next ss from i s h l e b = record {
-  start = (let st = h.start in omega arith);
-  blank = λ k d low up. elim (cases_lt k i) [
-    | inl less ↦ h.blank k d low less
-    | inr more ↦
-        let at_i : i ≡ k = omega arith in
-        subst (λ n. is_blank (get_or ss n d) ≡ true) at_i (subst (λ t. is_blank t ≡ true) (e ∙ any_default ss i s d l) b)
-  ];
-}
+tail_kept : (x : Stored) (xs : List Stored) → is_ordered stored_lt (x ∷ xs) ≡ true → is_ordered stored_lt xs ≡ true
+tail_kept x xs k = tail_ordered reference_of ref_lt same_ref ref_order x xs k
 
--- before i, in reference order, nothing stands from `from` on
-nothing_below : (ss : List Stored) (from : Ref) (i : ℕ) → IsKept ss → Searched ss from i → (q : Ref) → ref_lt q from ≡ false → ((j : ℕ) (d : Stored) → i ≤ j → j < length ss → same_ref q (get_or ss j d).reference ≡ true → ⊥) → look_up ss q ≡ nothing
-nothing_below ss from i k h q at_or_above none_later =
-    look_up_by (λ r. r ≡ nothing) q ss refl (λ j d l same.
-    elim (cases_lt j i) [
-      | inl less ↦ elim (cases_lt j (place_of ss from)) [
-        | inl early ↦
-            let under = below_place reference_of ref_lt same_ref ref_order from ss j d early in
-            absurd (both_ways _ at_or_above (subst (λ r. ref_lt r from ≡ true) (sym (ref_order.equal _ _ same)) under))
-        | inr late ↦ blank_is (get_or ss j d) (h.blank j d late less)
-      ]
-      | inr more ↦ absurd (none_later j d more l same)
-    ])
+-- what a search by reference gives
+pub found_record : (r : Option (Bor Stored)) (ss : List Stored) (o : Ref) → option_copied r ≡ stored_at o ss → IfSome r (λ s. look_up ss o ≡ record_of s.now)
+found_record None ss o e = tt
+found_record (Some s) ss o e = ap record_or_nothing (sym e)
 
-pub first_none : (ss : List Stored) (from : Ref) (i : ℕ) → IsKept ss → Searched ss from i → length ss ≤ i → (q : Ref) → ref_lt q from ≡ false → look_up ss q ≡ nothing
-first_none ss from i k h over q at_or_above = nothing_below ss from i k h q at_or_above (λ j d l m same. omega arith)
+pub found_nothing : (r : Option (Bor Stored)) (ss : List Stored) (o : Ref) → option_copied r ≡ stored_at o ss → IfNone r (look_up ss o ≡ nothing)
+found_nothing None ss o e = ap record_or_nothing (sym e)
+found_nothing (Some s) ss o e = tt
 
-pub first_is : (ss : List Stored) (from : Ref) (i : ℕ) (s : Stored) → IsKept ss → Searched ss from i → i < length ss → s ≡ get_or ss i s → is_blank s ≡ false → IsFirst (look_up ss) from s.reference
-first_is ss from i s k h l e b = record {
-  at_or_above = subst (λ (t : Stored). ref_lt t.reference from ≡ false) (sym e) (above_place reference_of ref_lt same_ref ref_order from ss i s k.ordered h.start l);
-  something = λ none. both_ways _ b (nothing_is_blank s (sym (look_up_own ss i s k l e) ∙ none));
-  nothing_before = λ q above before.
-      nothing_below ss from i k h q above (λ j d low m same.
-      let q_is = ref_order.equal _ _ same in
-      let before_j : ref_lt (get_or ss j d).reference s.reference ≡ true = subst (λ r. ref_lt r s.reference ≡ true) q_is before in
-      elim (cases_lt i j) [
-        | inl less ↦
-            let up : ref_lt (get_or ss i d).reference (get_or ss j d).reference ≡ true = earlier_below reference_of ref_lt same_ref ref_order ss i j d k.ordered less m in
-            let up_s : ref_lt s.reference (get_or ss j d).reference ≡ true = subst (λ (t : Stored). ref_lt t.reference (get_or ss j d).reference ≡ true) (any_default ss i d s l ∙ sym e) up in
-            both_ways _ (ref_order.one_way s.reference (get_or ss j d).reference up_s) before_j
-        | inr more ↦
-            let at_i : j ≡ i = omega arith in
-            let s_is : get_or ss j d ≡ s = ap (λ n. get_or ss n d) at_i ∙ any_default ss i d s l ∙ sym e in
-            both_ways _ (not_before_itself ref_lt same_ref ref_order s.reference) (subst (λ (t : Stored). ref_lt t.reference s.reference ≡ true) s_is before_j)
-      ]);
-}
+pub found_reference : (r : Option (Bor Stored)) (ss : List Stored) (o : Ref) → option_copied r ≡ stored_at o ss → IfSome r (λ s. s.now.reference ≡ o)
+found_reference None ss o e = tt
+found_reference (Some s) ss o e = sym (ref_order.equal _ _ (find_passes (λ t. same_ref o t.reference) ss s.now (sym e)))
 
--- reference order by numbers
-ref_lt_cases : (a b : Ref) → ref_lt a b ≡ true → (a.ty < b.ty) ⊎ ((a.ty ≡ b.ty) × (a.serial < b.serial))
-ref_lt_cases a b h =
-    elim (or_cases (nat_lt a.ty b.ty) ((a.ty == b.ty) && nat_lt a.serial b.serial) h) [
-      | inl first ↦ inl (ltb-true _ _ first)
-      | inr second ↦ let parts = and_parts (a.ty == b.ty) (nat_lt a.serial b.serial) second in inr (eqb-true _ _ parts.0, ltb-true _ _ parts.1)
-    ]
+pub found_tidy : (r : Option (Bor Stored)) (ss : List Stored) (o : Ref) → IsKept ss → option_copied r ≡ stored_at o ss → IfSome r (λ s. is_tidy s.now ≡ true)
+found_tidy None ss o k e = tt
+found_tidy (Some s) ss o k e = find_every is_tidy (λ t. same_ref o t.reference) ss s.now k.tidy (sym e)
 
+-- what a search for the first that says something gives
+blank_from : (from : Ref) (s : Stored) → ref_lt s.reference from ≡ false → says_from from s ≡ false → is_blank s ≡ true
+blank_from from s above silent =
+    let up : not (ref_lt s.reference from) ≡ true = not_from_false _ above in
+    elim (is_blank s) as (λ b. (not (ref_lt s.reference from) && not b) ≡ false → b ≡ true) [ true ↦ λ h. refl | false ↦ λ h. absurd (both_ways _ h (and_from _ _ up refl)) ] silent
+
+first_here : (x : Stored) (xs : List Stored) (from : Ref) → is_ordered stored_lt (x ∷ xs) ≡ true → says_from from x ≡ true → IsFirst (look_up (x ∷ xs)) from x.reference
+first_here x xs from k e =
+    let parts = and_parts (not (ref_lt x.reference from)) (not (is_blank x)) e in
+    record {
+      at_or_above = not-true _ parts.0;
+      something = λ none. both_ways _ (not-true _ parts.1) (nothing_is_blank x (sym (look_up_head x xs) ∙ none));
+      nothing_before = λ q above under. before_head x xs q k under;
+    }
+
+first_later : (x : Stored) (xs : List Stored) (from r : Ref) → is_ordered stored_lt (x ∷ xs) ≡ true → says_from from x ≡ false → IsFirst (look_up xs) from r → IsFirst (look_up (x ∷ xs)) from r
+first_later x xs from r k e f =
+    let other : same_ref r x.reference ≡ false = false_from_ne_true _ (λ same. f.something (ap (look_up xs) (ref_order.equal _ _ same) ∙ once x xs k)) in
+    record {
+      at_or_above = f.at_or_above;
+      something = λ none. f.something (sym (look_up_other x xs r other) ∙ none);
+      nothing_before = λ q above under.
+          elim (same_ref q x.reference) as (λ b. same_ref q x.reference ≡ b → look_up (x ∷ xs) q ≡ nothing) [
+            | true ↦ λ same.
+                let q_is : q ≡ x.reference = ref_order.equal _ _ same in
+                ap (look_up (x ∷ xs)) q_is ∙ look_up_head x xs ∙ blank_is x (blank_from from x (subst (λ p. ref_lt p from ≡ false) q_is above) e)
+            | false ↦ λ same. look_up_other x xs q same ∙ f.nothing_before q above under
+          ] refl;
+    }
+
+first_is : (ss : List Stored) (from : Ref) (s : Stored) → is_ordered stored_lt ss ≡ true → find (says_from from) ss ≡ Some s → IsFirst (look_up ss) from s.reference
+first_is [] from s k h = absurd (no_some s h)
+first_is (x ∷ xs) from s k h =
+    let next : find (says_from from) xs ≡ Some s → IsFirst (look_up xs) from s.reference = λ e. first_is xs from s (tail_kept x xs k) e in
+    elim (says_from from x) as (λ b. says_from from x ≡ b → ◌≡◌ {A = Option Stored} (cond b (Some x) (find (says_from from) xs)) (Some s) → IsFirst (look_up (x ∷ xs)) from s.reference) [
+      | true ↦ λ e n. subst (λ (t : Stored). IsFirst (look_up (x ∷ xs)) from t.reference) (some_is x s n) (first_here x xs from k e)
+      | false ↦ λ e n. first_later x xs from s.reference k e (next n)
+    ] refl h
+
+pub first_gives : (r : Option Ref) (ss : List Stored) (from : Ref) → IsKept ss → r ≡ first_from from ss → IfSome r (λ q. IsFirst (look_up ss) from q)
+first_gives r ss from k e =
+    let by_search : IfSome (first_from from ss) (λ q. IsFirst (look_up ss) from q) =
+    elim (find (says_from from) ss) as (λ o. find (says_from from) ss ≡ o → IfSome (option_map reference_of o) (λ q. IsFirst (look_up ss) from q)) [ None ↦ λ f. tt | Some s ↦ λ f. first_is ss from s k.ordered f ] refl in
+    subst (λ o. IfSome o (λ q. IsFirst (look_up ss) from q)) (sym e) by_search
+
+pub first_lacks : (r : Option Ref) (ss : List Stored) (from : Ref) → r ≡ first_from from ss → IfNone r ((q : Ref) → ref_lt q from ≡ false → look_up ss q ≡ nothing)
+first_lacks r ss from e =
+    let by_search : IfNone (first_from from ss) ((q : Ref) → ref_lt q from ≡ false → look_up ss q ≡ nothing) =
+    elim (find (says_from from) ss) as (λ o. find (says_from from) ss ≡ o → IfNone (option_map reference_of o) ((q : Ref) → ref_lt q from ≡ false → look_up ss q ≡ nothing)) [
+      | None ↦ λ f q above. look_up_by (λ r. r ≡ nothing) (λ s. not (says_from from s)) q ss (find_none (says_from from) ss f) refl (λ s at silent. blank_is s (blank_from from s (subst (λ p. ref_lt p from ≡ false) (sym at) above) (not-true _ silent)))
+      | Some s ↦ λ f. tt
+    ] refl in
+    subst (λ o. IfNone o ((q : Ref) → ref_lt q from ≡ false → look_up ss q ≡ nothing)) (sym e) by_search
+
+-- reference order within a type
 ref_lt_serials : (ty a b : ℕ) → a < b → ref_lt (ref ty a) (ref ty b) ≡ true
 ref_lt_serials ty a b h = or_right _ _ (and_from _ _ (eq-eqb ty ty refl) (lt-ltb a b h))
-
--- a later record isn't below an earlier one
-at_most : (ss : List Stored) (j i : ℕ) (d s : Stored) → IsKept ss → j ≤ i → i < length ss → s ≡ get_or ss i s → ((get_or ss j d).reference.ty < s.reference.ty) ⊎ (((get_or ss j d).reference.ty ≡ s.reference.ty) × ((get_or ss j d).reference.serial ≤ s.reference.serial))
-at_most ss j i d s k h l e =
-    let s_is : get_or ss i d ≡ s = any_default ss i d s l ∙ sym e in
-    elim (cases_lt j i) [
-      | inl less ↦
-          let under : ref_lt (get_or ss j d).reference s.reference ≡ true = subst (λ (t : Stored). ref_lt (get_or ss j d).reference t.reference ≡ true) s_is (earlier_below reference_of ref_lt same_ref ref_order ss j i d k.ordered less l) in
-          elim (ref_lt_cases _ _ under) [
-            | inl lower ↦ inl lower
-            | inr (same, lower) ↦ inr (same, omega arith)
-          ]
-      | inr more ↦
-          let at_i : j ≡ i = omega arith in
-          let j_is : get_or ss j d ≡ s = ap (λ n. get_or ss n d) at_i ∙ s_is in
-          inr (ap (λ (t : Stored). t.reference.ty) j_is, (let e2 : (get_or ss j d).reference.serial ≡ s.reference.serial = ap (λ (t : Stored). t.reference.serial) j_is in omega arith))
-    ]
 
 abbrev last : ℕ → Ref
 last ty = ref ty 4294967295
 
--- from `end` up to the last serial of the type, every record is absent
-pub record AbsentFrom (ss : List Stored) (ty end : ℕ) : Type 0 where
-  pub within : end ≤ place_of ss (last ty)
-  pub absent : (k : ℕ) (d : Stored) → end ≤ k → k < place_of ss (last ty) → is_absent (get_or ss k d).mode ≡ true
+absent_unless : (ty t : ℕ) (s : Stored) → s.reference ≡ ref ty t → t < 4294967295 → is_present ty s ≡ false → is_absent s.mode ≡ true
+absent_unless ty t s at below silent =
+    let its_type : (s.reference.ty == ty) ≡ true = eq-eqb _ _ (ap (λ (r : Ref). r.ty) at) in
+    let serial : s.reference.serial ≡ t = ap (λ (r : Ref). r.serial) at in
+    let its_serial : nat_lt s.reference.serial 4294967295 ≡ true = lt-ltb _ _ (omega arith) in
+    elim (is_absent s.mode) as (λ b. ((s.reference.ty == ty) && (nat_lt s.reference.serial 4294967295 && not b)) ≡ false → b ≡ true) [
+      | true ↦ λ h. refl
+      | false ↦ λ h. absurd (both_ways _ h (and_from _ _ its_type (and_from _ _ its_serial refl)))
+    ] silent
 
-pub absent_start : (ss : List Stored) (ty end : ℕ) → end ≡ place_of ss (last ty) → AbsentFrom ss ty end
-absent_start ss ty end e = record { within = omega arith; absent = λ k d l m. absurd (omega arith) }
+newest_none : (ss : List Stored) (ty t : ℕ) → find_last (is_present ty) ss ≡ None → t < 4294967295 → is_absent (look_up ss (ref ty t)).mode ≡ true
+newest_none ss ty t h below = look_up_by (λ r. is_absent r.mode ≡ true) (λ s. not (is_present ty s)) (ref ty t) ss (find_last_none (is_present ty) ss h) refl (λ s at silent. absent_unless ty t s at below (not-true _ silent))
 
-pub absent_next : (ss : List Stored) (ty i : ℕ) (s : Stored) → AbsentFrom ss ty (i + 1) → i < length ss → s ≡ get_or ss i s → is_absent s.mode ≡ true → AbsentFrom ss ty i
-absent_next ss ty i s h l e b = record {
-  within = (let w = h.within in omega arith);
-  absent = λ k d low up. elim (cases_lt i k) [
-    | inl less ↦ h.absent k d (omega arith) up
-    | inr more ↦
-        let at_i : i ≡ k = omega arith in
-        subst (λ n. is_absent (get_or ss n d).mode ≡ true) at_i (subst (λ (t : Stored). is_absent t.mode ≡ true) (e ∙ any_default ss i s d l) b)
-  ];
-}
+absent_where_nothing : (ss : List Stored) (q : Ref) → look_up ss q ≡ nothing → is_absent (look_up ss q).mode ≡ true
+absent_where_nothing ss q h = subst (λ (r : Record). is_absent r.mode ≡ true) (sym h) refl
 
--- a serial below the last is absent, if no record before `end` has it
-absent_above : (ss : List Stored) (ty end t : ℕ) → IsKept ss → AbsentFrom ss ty end → t < 4294967295 → ((j : ℕ) (d : Stored) → j < end → j < length ss → (get_or ss j d).reference ≡ ref ty t → ⊥) → is_absent (look_up ss (ref ty t)).mode ≡ true
-absent_above ss ty end t k h below none_earlier =
-    look_up_by (λ r. is_absent r.mode ≡ true) (ref ty t) ss refl (λ j d l same.
-    let r_is : ref ty t ≡ (get_or ss j d).reference = ref_order.equal _ _ same in
-    elim (cases_lt j end) [
-      | inl early ↦ absurd (none_earlier j d early l (sym r_is))
-      | inr late ↦ elim (cases_lt j (place_of ss (last ty))) [
-        | inl under ↦ h.absent j d late under
-        | inr over ↦
-            let not_below = above_place reference_of ref_lt same_ref ref_order (last ty) ss j d k.ordered over l in
-            absurd (both_ways _ not_below (subst (λ r. ref_lt r (last ty) ≡ true) r_is (ref_lt_serials ty t 4294967295 below)))
-      ]
-    ])
-
-pub within_length : (ss : List Stored) (ty i : ℕ) → AbsentFrom ss ty (i + 1) → i < length ss
-within_length ss ty i h = let w = h.within in omega (arith, place-le-length (λ y. ref_lt (reference_of y) (last ty)) ss)
-
-pub newest_none : (ss : List Stored) (ty : ℕ) → IsKept ss → AbsentFrom ss ty 0 → (t : ℕ) → t < 4294967295 → is_absent (look_up ss (ref ty t)).mode ≡ true
-newest_none ss ty k h t below = absent_above ss ty 0 t k h below (λ j d early l e. omega arith)
-
-under_last : (ss : List Stored) (ty i : ℕ) (s : Stored) → i < length ss → i < place_of ss (last ty) → s ≡ get_or ss i s → ref_lt s.reference (last ty) ≡ true
-under_last ss ty i s l p e = subst (λ (t : Stored). ref_lt t.reference (last ty) ≡ true) (sym e) (below_place reference_of ref_lt same_ref ref_order (last ty) ss i s p)
-
--- behind the records of lower types there is none of the type
-pub newest_lower : (ss : List Stored) (ty i : ℕ) (s : Stored) → IsKept ss → AbsentFrom ss ty (i + 1) → i < length ss → s ≡ get_or ss i s → s.reference.ty ≢ ty → (t : ℕ) → t < 4294967295 → is_absent (look_up ss (ref ty t)).mode ≡ true
-newest_lower ss ty i s k h l e other t below =
-    let w = h.within in
-    let lower : s.reference.ty < ty = elim (ref_lt_cases _ _ (under_last ss ty i s l (omega arith) e)) [ inl less ↦ less | inr (same, less) ↦ absurd (other same) ] in
-    absent_above ss ty (i + 1) t k h below (λ j d early m r.
-    let its_type : (get_or ss j d).reference.ty ≡ ty = ap (λ (q : Ref). q.ty) r in
-    elim (at_most ss j i d s k (omega arith) l e) [ inl less ↦ omega arith | inr (same, less) ↦ omega arith ])
-
-pub newest_found : (ss : List Stored) (ty i : ℕ) (s : Stored) → IsKept ss → AbsentFrom ss ty (i + 1) → i < length ss → s ≡ get_or ss i s → s.reference.ty ≡ ty → is_absent s.mode ≡ false → IsNewest (look_up ss) ty s.reference.serial
-newest_found ss ty i s k h l e ty_is there =
-    let w = h.within in
-    let r_is : s.reference ≡ ref ty s.reference.serial = λ n. record { ty = ty_is n; serial = s.reference.serial } in
+newest_here : (x : Stored) (xs : List Stored) (ty : ℕ) → is_present ty x ≡ true → find_last (is_present ty) xs ≡ None → IsNewest (look_up (x ∷ xs)) ty x.reference.serial
+newest_here x xs ty p none =
+    let parts = and_parts (x.reference.ty == ty) (nat_lt x.reference.serial 4294967295 && not (is_absent x.mode)) p in
+    let others = and_parts (nat_lt x.reference.serial 4294967295) (not (is_absent x.mode)) parts.1 in
+    let ty_is : x.reference.ty ≡ ty = eqb-true _ _ parts.0 in
+    let r_is : x.reference ≡ ref ty x.reference.serial = λ n. record { ty = ty_is n; serial = x.reference.serial } in
     record {
-      below_last = elim (ref_lt_cases _ _ (under_last ss ty i s l (omega arith) e)) [ inl less ↦ (let lower : s.reference.ty < ty = less in absurd (omega arith)) | inr (same, less) ↦ less ];
-      present = subst (λ r. is_absent (look_up ss r).mode ≡ false) r_is (subst (λ (r : Record). is_absent r.mode ≡ false) (sym (look_up_own ss i s k l e)) there);
-      above = λ t up below. absent_above ss ty (i + 1) t k h below (λ j d early m r.
-          let its_type : (get_or ss j d).reference.ty ≡ ty = ap (λ (q : Ref). q.ty) r in
-          let its_serial : (get_or ss j d).reference.serial ≡ t = ap (λ (q : Ref). q.serial) r in
-          elim (at_most ss j i d s k (omega arith) l e) [ inl less ↦ omega arith | inr (same, less) ↦ omega arith ]);
+      below_last = ltb-true _ _ others.0;
+      present = subst (λ r. is_absent (look_up (x ∷ xs) r).mode ≡ false) r_is (subst (λ (r : Record). is_absent r.mode ≡ false) (sym (look_up_head x xs)) (not-true _ others.1));
+      above = λ t up below.
+          let other : same_ref (ref ty t) x.reference ≡ false = false_from_ne_true _ (λ same. let serial : t ≡ x.reference.serial = ap (λ (r : Ref). r.serial) (ref_order.equal _ _ same) in omega arith) in
+          subst (λ (r : Record). is_absent r.mode ≡ true) (sym (look_up_other x xs (ref ty t) other)) (newest_none xs ty t none below);
     }
+
+newest_later : (x : Stored) (xs : List Stored) (ty n : ℕ) → is_ordered stored_lt (x ∷ xs) ≡ true → IsNewest (look_up xs) ty n → IsNewest (look_up (x ∷ xs)) ty n
+newest_later x xs ty n k f =
+    let other : same_ref (ref ty n) x.reference ≡ false = false_from_ne_true _ (λ same. both_ways _ f.present (absent_where_nothing xs (ref ty n) (ap (look_up xs) (ref_order.equal _ _ same) ∙ once x xs k))) in
+    let there : is_absent (look_up (x ∷ xs) (ref ty n)).mode ≡ false = subst (λ (r : Record). is_absent r.mode ≡ false) (sym (look_up_other x xs (ref ty n) other)) f.present in
+    record {
+      below_last = f.below_last;
+      present = there;
+      above = λ t up below.
+          elim (same_ref (ref ty t) x.reference) as (λ b. same_ref (ref ty t) x.reference ≡ b → is_absent (look_up (x ∷ xs) (ref ty t)).mode ≡ true) [
+            | true ↦ λ same.
+                let lower : ref_lt (ref ty n) x.reference ≡ true = subst (λ r. ref_lt (ref ty n) r ≡ true) (ref_order.equal _ _ same) (ref_lt_serials ty n t up) in
+                absurd (both_ways _ there (absent_where_nothing (x ∷ xs) (ref ty n) (before_head x xs (ref ty n) k lower)))
+            | false ↦ λ same. subst (λ (r : Record). is_absent r.mode ≡ true) (sym (look_up_other x xs (ref ty t) same)) (f.above t up below)
+          ] refl;
+    }
+
+newest_is : (ss : List Stored) (ty : ℕ) (s : Stored) → is_ordered stored_lt ss ≡ true → find_last (is_present ty) ss ≡ Some s → IsNewest (look_up ss) ty s.reference.serial
+newest_is [] ty s k h = absurd (no_some s h)
+newest_is (x ∷ xs) ty s k h =
+    let next : find_last (is_present ty) xs ≡ Some s → IsNewest (look_up xs) ty s.reference.serial = λ e. newest_is xs ty s (tail_kept x xs k) e in
+    elim (find_last (is_present ty) xs) as (λ o. find_last (is_present ty) xs ≡ o → option_or o (cond (is_present ty x) (Some x) None) ≡ Some s → IsNewest (look_up (x ∷ xs)) ty s.reference.serial) [
+      | None ↦ λ none n. elim (is_present ty x) as (λ b. is_present ty x ≡ b → ◌≡◌ {A = Option Stored} (cond b (Some x) None) (Some s) → IsNewest (look_up (x ∷ xs)) ty s.reference.serial) [
+        | true ↦ λ p m. subst (λ (t : Stored). IsNewest (look_up (x ∷ xs)) ty t.reference.serial) (some_is x s m) (newest_here x xs ty p none)
+        | false ↦ λ p m. absurd (no_some s m)
+      ] refl n
+      | Some y ↦ λ e n. newest_later x xs ty s.reference.serial k (next (e ∙ n))
+    ] refl h
+
+pub newest_gives : (r : Option ℕ) (ss : List Stored) (ty : ℕ) → IsKept ss → r ≡ newest_of ty ss → IfSome r (λ n. IsNewest (look_up ss) ty n)
+newest_gives r ss ty k e =
+    let by_search : IfSome (newest_of ty ss) (λ n. IsNewest (look_up ss) ty n) =
+    elim (find_last (is_present ty) ss) as (λ o. find_last (is_present ty) ss ≡ o → IfSome (option_map serial_of o) (λ n. IsNewest (look_up ss) ty n)) [ None ↦ λ f. tt | Some s ↦ λ f. newest_is ss ty s k.ordered f ] refl in
+    subst (λ o. IfSome o (λ n. IsNewest (look_up ss) ty n)) (sym e) by_search
+
+pub newest_lacks : (r : Option ℕ) (ss : List Stored) (ty : ℕ) → r ≡ newest_of ty ss → IfNone r ((t : ℕ) → t < 4294967295 → is_absent (look_up ss (ref ty t)).mode ≡ true)
+newest_lacks r ss ty e =
+    let by_search : IfNone (newest_of ty ss) ((t : ℕ) → t < 4294967295 → is_absent (look_up ss (ref ty t)).mode ≡ true) =
+    elim (find_last (is_present ty) ss) as (λ o. find_last (is_present ty) ss ≡ o → IfNone (option_map serial_of o) ((t : ℕ) → t < 4294967295 → is_absent (look_up ss (ref ty t)).mode ≡ true)) [
+      | None ↦ λ f t below. newest_none ss ty t f below
+      | Some s ↦ λ f. tt
+    ] refl in
+    subst (λ o. IfNone o ((t : ℕ) → t < 4294967295 → is_absent (look_up ss (ref ty t)).mode ≡ true)) (sym e) by_search
 
 -- no record has a serial past 32 bits
 absent_past : (ss : List Stored) (ty t : ℕ) → IsKept ss → 4294967296 ≤ t → is_absent (look_up ss (ref ty t)).mode ≡ true
 absent_past ss ty t k past =
-    look_up_by (λ r. is_absent r.mode ≡ true) (ref ty t) ss refl (λ j d l same.
-    let its_serial : t ≡ (get_or ss j d).reference.serial = ap (λ (q : Ref). q.serial) (ref_order.equal _ _ same) in
-    let tidy = every_at is_tidy ss j d k.tidy l in
-    let fits : (get_or ss j d).reference.serial < 4294967296 = ltb-true _ _ (and_parts (nat_lt (get_or ss j d).reference.serial (2 ^ 32)) _ tidy).0 in
+    look_up_by (λ r. is_absent r.mode ≡ true) is_tidy (ref ty t) ss k.tidy refl (λ s at tidy.
+    let its_serial : s.reference.serial ≡ t = ap (λ (q : Ref). q.serial) at in
+    let fits : s.reference.serial < 4294967296 = ltb-true _ _ (and_parts (nat_lt s.reference.serial (2 ^ 32)) _ tidy).0 in
     absurd (omega arith))
 
 absent_from_last : (ss : List Stored) (ty t : ℕ) → IsKept ss → is_absent (look_up ss (last ty)).mode ≡ true → 4294967295 ≤ t → is_absent (look_up ss (ref ty t)).mode ≡ true

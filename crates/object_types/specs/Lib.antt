@@ -7,3 +7,4 @@ pub mod Heap
 pub mod Content
 pub mod Fields
 pub mod Lookups
+pub mod Trees

@@ -1,5 +1,5 @@
 -- The code's heap: a list of stored records in reference order, each reference once, read as a heap. Own.
-use Rattle.std.specs.Prelude.{◌≡◌, ◌^◌, Bool, true, ◌&&◌, nat_lt, ◌==◌, List, length, map, Option, Some, None}
+use Rattle.std.specs.Prelude.{◌≡◌, ℕ, ◌^◌, Bool, true, not, ◌&&◌, nat_lt, ◌==◌, List, length, map, Option, Some, None}
 use Rattle.std.specs.List.{find}
 use Rattle.object_types.specs.declared.references.Ref.{Ref}
 use Rattle.object_types.specs.declared.records.Stored.{Stored}
@@ -15,6 +15,9 @@ use Rattle.object_types.specs.Heap.{Record, Heap, nothing, is_absent, with_statu
 
 abbrev pub reference_of : Stored → Ref
 reference_of s = s.reference
+
+abbrev pub serial_of : Stored → ℕ
+serial_of s = s.reference.serial
 
 abbrev pub stored_lt : Stored → Stored → Bool
 stored_lt a b = ref_lt a.reference b.reference
@@ -51,6 +54,14 @@ is_tidy s = nat_lt s.reference.serial (2 ^ 32) && (nat_lt s.reference.ty (2 ^ 32
 -- what is stored says nothing: as if nothing stood there
 abbrev pub is_blank : Stored → Bool
 is_blank s = is_absent s.mode && is_null s.owner && is_zero_int s.count && length s.owned == 0 && length s.fields == 0 && length s.listed == 0 && length s.shapes == 0
+
+-- the reference isn't before `from`, and the record says something
+abbrev pub says_from : Ref → Stored → Bool
+says_from from s = not (ref_lt s.reference from) && not (is_blank s)
+
+-- an object of the type is or was at the reference, which isn't the type's last
+abbrev pub is_present : ℕ → Stored → Bool
+is_present ty s = (s.reference.ty == ty) && (nat_lt s.reference.serial 4294967295 && not (is_absent s.mode))
 
 -- what every heap of the code keeps: each reference once and in order, and every record tidy
 pub record IsKept (stored : List Stored) : Type 0 where

@@ -1,40 +1,45 @@
 //! Heaps: finite maps from references to records.
 
-ghost use Rattle.std.specs.Prelude.{◌≡◌, ◌≤◌, ◌<◌, ◌↔◌, ℕ, List, [], OnOk, OnErr, IfOk, IfErr, IfSome, IfNone, IsNone, IsTrue, IsFalse, length};
+ghost use Rattle.std.specs.Prelude.{◌≡◌, ◌<◌, ◌↔◌, ℕ, List, [], OnOk, OnErr, IfOk, IfSome, IfNone, IsNone, IsTrue, IsFalse};
 ghost use Rattle.object_types.specs.declared.references.Ref.{Ref as Reference};
-ghost use Rattle.object_types.specs.References.{ref, ref_lt, same_ref};
+ghost use Rattle.object_types.specs.References.{ref, ref_lt};
 ghost use Rattle.object_types.specs.Values.{is_zero, or_zero};
-ghost use Rattle.object_types.specs.Places.{is_ordered, place, IsAt, GoesAt};
+ghost use Rattle.object_types.specs.Places.{is_ordered};
 ghost use Rattle.object_types.specs.Heap.{nothing, is_absent, put_at, with_status, with_count, with_field, with_owned, with_listed, with_shape};
 ghost use Rattle.object_types.specs.Fields.{kept_lt, field_in};
 ghost use Rattle.object_types.specs.Content.{IsFresh, IsNewest, IsFirst, SameContent};
-ghost use Rattle.object_types.specs.Lookups.{reference_of, record_of, look_up, changed, IsKept};
+ghost use Rattle.object_types.specs.Lookups.{record_of, look_up, changed, is_tidy, IsKept};
 
 use crate::fields::{Kept, same_fields};
 use crate::records::{Change, Mode, RecordView, Stored};
 use crate::references::{NULL, Ref};
 use crate::sets::same_members;
 use crate::shapes::{Entry, same_conjuncts};
+use crate::trees::Tree;
 use crate::values::{Value, Values};
 use std::alloc::{AllocError, Global};
 use std::marker::Model;
+use std::rc::Rc;
 
-/// A heap; contracts see the list of what it holds, in reference order.
+/// A heap; contracts see the list of what it holds, in reference order. A copy shares all with its heap, until one of
+/// the two changes.
 #[derive(Drop)]
 pub struct Heap {
-    records: Vec<Stored>,
+    alloc: Global,
+    tree: Tree,
 }
 
 impl Model for Heap {
     ghost use Rattle.std.specs.Prelude.{List};
     ghost use Rattle.object_types.specs.declared.records.Stored.{Stored as AStored};
     ghost use Rattle.object_types.specs.Lookups.{IsKept};
+    ghost use Rattle.object_types.specs.Trees.{in_order};
 
     ghost Value = { List AStored };
 
-    ghost view = { λ a. a.records.items };
+    ghost view = { λ a. in_order a.tree };
 
-    ghost invariant = { λ a. IsKept a.records.items };
+    ghost invariant = { λ a. IsKept (in_order a.tree) };
 }
 
 impl Heap {
@@ -43,7 +48,8 @@ impl Heap {
         ensures { result ≡ [] }
     {
         Heap {
-            records: Vec::new(alloc),
+            alloc,
+            tree: Tree::Empty,
         }
     }
 
@@ -51,44 +57,32 @@ impl Heap {
     pub fn is_kept(&self)
         ensures { IsKept self.now }
     {
-        let _ = &self.records;
-    }
-
-    /// How many records are before the reference.
-    fn place(&self, reference: Ref) -> usize
-        ensures place { result ≡ place (λ y. ref_lt (reference_of y) reference) self.now }
-        ensures bound { result ≤ length self.now }
-    {
-        self.records.as_slice().partition_point(
-            |stored: &Stored| -> bool
-                ensures { result ≡ ref_lt (reference_of stored.now) reference }
-            { stored.reference.is_before(reference) },
-        )
-    }
-
-    /// Where the reference's record is, or else where it would stand.
-    fn find(&self, reference: Ref) -> Result<usize, usize>
-        ensures found { IfOk result (IsAt reference_of ref_lt same_ref reference self.now) }
-        ensures absent { IfErr result (GoesAt reference_of ref_lt same_ref reference self.now) }
-    {
-        let place = self.place(reference);
-        if place == self.records.len() {
-            return Err(place);
-        }
-        if self.records[place].reference.is_same(reference) {
-            return Ok(place);
-        }
-        Err(place)
+        let _ = &self.tree;
     }
 
     /// What is stored at the reference.
+    #[tactic(auto, using(crate::proofs::Present::found_record, crate::proofs::Present::found_nothing))]
     fn get(&self, reference: Ref) -> Option<&Stored>
         ensures some { IfSome result (λ s. look_up self.now reference ≡ record_of s.now) }
         ensures none { IfNone result (look_up self.now reference ≡ nothing) }
+        ensures reference { IfSome result (λ s. s.now.reference ≡ reference) }
+        ensures tidy { IfSome result (λ s. IsTrue (is_tidy s.now)) }
     {
-        match self.find(reference) {
-            Ok(place) => Some(&self.records[place]),
-            Err(_) => None,
+        self.tree.find(reference)
+    }
+
+    /// The record at the reference, to be changed.
+    fn record_at(&self, reference: Ref) -> Result<Stored, AllocError>
+        ensures reference { IfOk result (λ s. s.reference ≡ reference) }
+        ensures record { IfOk result (λ s. record_of s ≡ look_up self.now reference) }
+        ensures tidy { IfOk result (λ s. IsTrue (is_tidy s)) }
+    {
+        match self.get(reference) {
+            Some(stored) => {
+                let same = stored.copy()?;
+                Ok(same)
+            }
+            None => Ok(Stored::blank(self.alloc, reference)),
         }
     }
 
@@ -171,15 +165,12 @@ impl Heap {
         ensures ok { OnOk result (look_up self.new ≡ put_at (look_up self.old) o (changed change (look_up self.old o))) }
         ensures err { OnErr result (self.new ≡ self.old) }
     {
-        match self.find(o) {
-            Ok(place) => self.records[place].apply(change),
-            Err(place) => {
-                let mut stored = Stored::blank(*self.records.allocator(), o);
-                stored.apply(change)?;
-                self.records.insert(place, stored)?;
-                Ok(())
-            }
-        }
+        let mut stored = self.record_at(o)?;
+        stored.apply(change)?;
+        let shared = Rc::new(self.alloc, stored)?;
+        let tree = self.tree.put(self.alloc, shared)?;
+        self.tree = tree;
+        Ok(())
     }
 
     /// Writes the object's field; after 0 or NULL none is kept.
@@ -233,7 +224,7 @@ impl Heap {
         ensures ok { OnOk result (look_up self.new ≡ put_at (look_up self.old) c (with_shape (record { shape = shape; values = values.now }) holds (look_up self.old c))) }
         ensures err { OnErr result (self.new ≡ self.old) }
     {
-        let values = Values::from_slice(*self.records.allocator(), values)?;
+        let values = Values::from_slice(self.alloc, values)?;
         self.change(c, Change::Shape(Entry { shape, values }, holds))
     }
 
@@ -241,51 +232,30 @@ impl Heap {
     pub fn copy(&self) -> Result<Heap, AllocError>
         ensures { IfOk result (λ h. h ≡ self.now) }
     {
-        let mut records = Vec::new(*self.records.allocator());
-        let all = self.records.as_slice();
-        for stored in all {
-            records.push(stored.copy()?)?;
-        }
-        Ok(Heap { records })
+        let tree = self.tree.share()?;
+        Ok(Heap {
+            alloc: self.alloc,
+            tree,
+        })
     }
 
     /// The first reference from `from` on, in reference order, at which something stands.
+    #[tactic(auto, using(crate::proofs::Present::first_gives, crate::proofs::Present::first_lacks))]
     pub fn first(&self, from: Ref) -> Option<Ref>
         ensures some { IfSome result (λ r. IsFirst (look_up self.now) from r) }
         ensures none { IfNone result ((q : Reference) → IsFalse (ref_lt q from) → look_up self.now q ≡ nothing) }
     {
-        let mut i = self.place(from);
-        while i < self.records.len() {
-            let stored = &self.records[i];
-            if !stored.is_blank() {
-                return Some(stored.reference);
-            }
-            i += 1;
-        }
-        None
+        self.tree.first(from)
     }
 
     /// The greatest serial of the type below the greatest of all, at which the mode isn't absent.
+    #[tactic(auto, using(crate::proofs::Present::newest_gives, crate::proofs::Present::newest_lacks))]
     fn newest(&self, ty: u32) -> Option<u32>
         ensures some { IfSome result (λ s. IsNewest (look_up self.now) ty s) }
         ensures none { IfNone result ((s : ℕ) → s < 4294967295 → IsTrue (is_absent (look_up self.now (ref ty s)).mode)) }
         ensures kept { IsKept self.now }
     {
-        let mut end = self.place(Ref {
-            ty,
-            serial: 4294967295,
-        });
-        while end > 0 {
-            end -= 1;
-            let stored = &self.records[end];
-            if stored.reference.ty != ty {
-                return None;
-            }
-            if !stored.mode.is_absent() {
-                return Some(stored.reference.serial);
-            }
-        }
-        None
+        self.tree.newest(ty)
     }
 
     /// A reference of the type that nothing has used; none where the greatest serial was used.

@@ -8,4 +8,5 @@ pub mod records;
 pub mod references;
 pub mod sets;
 pub mod shapes;
+mod trees;
 pub mod values;

@@ -2,7 +2,7 @@
 
 ghost use Rattle.std.specs.Prelude.{◌≡◌, ℕ, ◌^◌, ◌<◌, ◌↔◌, List, [], OnOk, OnErr, IfOk, IsTrue};
 ghost use Rattle.object_types.specs.Heap.{nothing, is_absent};
-ghost use Rattle.object_types.specs.Lookups.{record_of, changed, is_tidy, is_blank};
+ghost use Rattle.object_types.specs.Lookups.{record_of, changed, is_tidy, is_blank, is_present};
 
 use crate::fields::Fields;
 use crate::references::{NULL, Ref};
@@ -125,6 +125,13 @@ impl Stored {
             && self.fields.as_slice().is_empty()
             && self.listed.as_slice().is_empty()
             && self.shapes.as_slice().is_empty()
+    }
+
+    /// Whether an object of the type is or was at the reference, which isn't the type's last.
+    pub fn is_present(&self, ty: u32) -> bool
+        ensures { result ≡ is_present ty self.now }
+    {
+        self.reference.ty == ty && (self.reference.serial < 4294967295 && !self.mode.is_absent())
     }
 
     /// The same record once more.

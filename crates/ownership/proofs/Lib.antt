@@ -6,3 +6,4 @@ pub mod Adding
 pub mod Roots
 pub mod Ordered
 pub mod Reaching
+pub mod Owners

@@ -68,7 +68,7 @@ fn has_volatile_owns(program: &Program, ty: u32) -> bool
 }
 
 /// What the object owns, unless that is volatile.
-fn members<'h>(program: &Program, h: &'h Heap, c: Ref) -> &'h [Ref]
+pub(crate) fn members<'h>(program: &Program, h: &'h Heap, c: Ref) -> &'h [Ref]
     ensures { result.now ≡ (if has_volatile_owns program.now c.ty then [] else (look_up h.now c).owned) }
 {
     if has_volatile_owns(program, c.ty) {

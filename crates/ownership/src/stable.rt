@@ -8,7 +8,8 @@ ghost use Rattle.object_types.specs.Lookups.{heap_of};
 ghost use Rattle.method.specs.WellFormed.{IsHeapOf};
 ghost use Rattle.method.specs.StableSet.{InStableSet, stable_set};
 
-use crate::search::Search;
+use crate::search::{Search, members};
+use crate::status::{is_among, wrapped};
 use method::program::Program;
 use object_types::heap::Heap;
 use object_types::references::Ref;
@@ -33,4 +34,25 @@ pub fn stable_set(
     }
     let set = search.all_found(alloc)?;
     Ok(set)
+}
+
+/// Whether the object is in the stable set of t by its owners alone: it, or what owns it by way of others, is closed and
+/// t's. That it isn't says nothing of the set.
+pub fn is_stable_by_owners(program: &Program, h: &Heap, t: Ref, o: Ref) -> bool
+    ensures { IsTrue result → InStableSet program.now t (heap_of h.now) o }
+{
+    let mut at = o;
+    let mut left: u32 = 64;
+    while left > 0 {
+        if wrapped(h, t, at) {
+            return true;
+        }
+        let owner = h.view(at).owner;
+        if !is_among(at, members(program, h, owner)) {
+            return false;
+        }
+        at = owner;
+        left -= 1;
+    }
+    false
 }
