@@ -24,7 +24,7 @@ use Rattle.block_layout.specs.declared.loaded.Stop.TheVariants as s
 use Rattle.block_layout.specs.Space.{Keeps, StaysSorted, Sorts, IsSorted, KnowsSorts, IsTheory}
 use Rattle.block_layout.specs.Trees.{Grow, tree_over, sorted_tree, AreTrees, IsFirstBad}
 use Rattle.block_layout.specs.Layout.{IsLaid, IsLayout, IsNode, NamesTerms, clause_in, clause_over, instance_in, instance_of, if_axiom, truth_value, but_last, numbers_over, node_of}
-use Rattle.block_layout.specs.Loading.{Shown, PutsOwn, PutsAdded, AddedTo, PutsTerms, TermsTo, BlockShown, IsWithinLimit, IsPastLimit, StepsFront, StepsLaid, StepsTo, PutsSteps, IsUnnamed, AreLaid, IsLoadedTo, laid_in}
+use Rattle.block_layout.specs.Loading.{Shown, PutsOwn, PutsAdded, AddedTo, PutsTerms, TermsTo, BlockShown, IsWithinLimit, IsPastLimit, StepsFront, StepsLaid, StepsTo, PutsSteps, PutsBehind, AreOver, LoadsSteps, IsUnnamed, AreLaid, IsLoaded, IsLoadedTo, laid_in}
 use Rattle.block_layout.proofs.Lists.{take_long, take_all, take_next, get_more, map_more}
 
 -- ---- a step's instance
@@ -139,24 +139,22 @@ terms_past code own added old new names past = record { each = λ l is s. past }
 -- ---- the whole block
 
 -- the loaded block has this root, these steps and these clauses
-pub record Holds (loaded : Loaded) (root : ℕ) (steps : List LoadedStep) (clauses : List (List Literal)) : Type 0 where
-  pub root_is : loaded.clauses.root ≡ Some root
+pub record Holds (loaded : Loaded) (root : Option ℕ) (steps : List LoadedStep) (clauses : List (List Literal)) : Type 0 where
+  pub root_is : loaded.clauses.root ≡ root
   pub steps_are : loaded.steps.items ≡ steps
   pub clauses_are : loaded.clauses.list.items ≡ clauses
 
-are_laid : (l : Language) (own : List Term) (root : ℕ) (block : Derivation) (names : List ℕ) (space : Space) (loaded : Loaded) (laid : List LoadedStep) (clauses : List (List Literal)) (count : ℕ) (trees : List Formula) → AreTrees l own block.terms trees → StandAll space.graph names trees → IsGraph space.graph → IsSorted l space →
-    Holds loaded (node_of names root) laid clauses → StepsLaid l trees names (take count block.steps) space laid clauses → AreLaid l own root block space loaded count
+are_laid : (l : Language) (own : List Term) (root : Option ℕ) (block : Derivation) (names : List ℕ) (space : Space) (loaded : Loaded) (laid : List LoadedStep) (clauses : List (List Literal)) (count : ℕ) (trees : List Formula) → AreTrees l own block.terms trees → StandAll space.graph names trees → IsGraph space.graph → IsSorted l space →
+    Holds loaded (option_map (node_of names) root) laid clauses → StepsLaid l trees names (take count block.steps) space laid clauses → AreLaid l own root block space loaded count
 are_laid l own root block names space loaded laid clauses count trees good shown graph sorted holds k = record {
   trees = trees;
   good = good;
-  node = node_of names root;
-  root_node = holds.root_is;
   layout = record {
     graph = graph;
     sorts = sorted;
     names = names;
     shown = shown;
-    root_is = refl;
+    root_is = holds.root_is;
     count = ap length holds.steps_are ∙ k.count;
     each = λ i step x h g. k.each i step x h (sym (ap (λ (xs : List LoadedStep). slice_get xs i) holds.steps_are) ∙ g);
     clauses = holds.clauses_are ∙ k.clauses_are;
@@ -164,8 +162,8 @@ are_laid l own root block names space loaded laid clauses count trees good shown
   };
 }
 
-loaded_to : (l : Language) (own : List Term) (root : ℕ) (block : Derivation) (names : List ℕ) (space : Space) (loaded : Loaded) (laid : List LoadedStep) (clauses : List (List Literal)) (trees : List Formula) (stop : Option Stop) → AreTrees l own block.terms trees → StandAll space.graph names trees → IsGraph space.graph → IsSorted l space →
-    Holds loaded (node_of names root) laid clauses → StepsTo l trees names block.steps space laid clauses stop → IsLoadedTo l own root block space loaded stop
+loaded_to : (l : Language) (own : List Term) (root : Option ℕ) (block : Derivation) (names : List ℕ) (space : Space) (loaded : Loaded) (laid : List LoadedStep) (clauses : List (List Literal)) (trees : List Formula) (stop : Option Stop) → AreTrees l own block.terms trees → StandAll space.graph names trees → IsGraph space.graph → IsSorted l space →
+    Holds loaded (option_map (node_of names) root) laid clauses → StepsTo l trees names block.steps space laid clauses stop → IsLoadedTo l own root block space loaded stop
 unfolding are_laid
 loaded_to l own root block names space loaded laid clauses trees None good shown graph sorted holds k = (
   are_laid l own root block names space loaded laid clauses (length block.steps) trees good shown graph sorted holds
@@ -179,23 +177,53 @@ loaded_to l own root block names space loaded laid clauses trees (Some (s.LimitA
 loaded_to l own root block names space loaded laid clauses trees (Some (s.UnnamedAt i)) good shown graph sorted holds k =
     (are_laid l own root block names space loaded laid clauses i trees good shown graph sorted holds k.0, k.1, k.2)
 
-pub block_loaded : (theory : Theory) (own : List Term) (root : ℕ) (block : Derivation) (names : List ℕ) (old first mid new : Space) (loaded : Loaded) (laid : List LoadedStep) (clauses : List (List Literal)) (stop : Option Stop) → Sorts theory.language.now old first → StaysSorted theory.language.now first mid →
-    PutsTerms theory.language.now own block.terms first mid names None → Keeps theory.language.now mid new → StaysSorted theory.language.now mid new → PutsSteps theory names block.steps mid new laid clauses stop → IsGraph new.graph →
-    Holds loaded (node_of names root) laid clauses → (l : Language) → IsTheory theory l → KnowsSorts l old → IsLoadedTo l own root block new loaded stop
-block_loaded theory own root block names old first mid new loaded laid clauses stop begun sorted terms kept stays steps graph holds l t known =
-    let first_sorted = begun.known l t.language known in
-    let mid_sorted = sorted.sorted l t.language first_sorted in
-    let b = terms.each l t.language first_sorted in
-    loaded_to l own root block names new loaded laid clauses b.trees stop b.good (all_later kept.later b.shown) graph (stays.sorted l t.language mid_sorted) holds
-    (steps.each l b.trees t mid_sorted b.shown)
+over_to : (l : Language) (trees : List Formula) (names : List ℕ) (steps : List Step) (space : Space) (laid : List LoadedStep) (clauses : List (List Literal)) (stop : Option Stop) → StepsTo l trees names steps space laid clauses stop → AreOver names (length trees) steps clauses
+over_to l trees names steps space laid clauses None k =
+    let whole : take (length steps) steps ≡ steps = take_all steps (length steps) (omega arith) in
+    record {
+      many = length steps;
+      are = k.0.clauses_are ∙ ap (map (clause_in names)) (sym whole);
+      named = λ i step h. k.0.named i step (ap (λ (ss : List Step). slice_get ss i) (sym whole) ∙ h);
+    }
+over_to l trees names steps space laid clauses (Some (s.BadTerm i)) k = absurd k
+over_to l trees names steps space laid clauses (Some s.Limit) k = absurd k
+over_to l trees names steps space laid clauses (Some (s.LimitAt i)) k = record { many = i; are = k.0.clauses_are; named = k.0.named }
+over_to l trees names steps space laid clauses (Some (s.UnnamedAt i)) k = record { many = i; are = k.0.clauses_are; named = k.0.named }
 
-stopped_to : (l : Language) (own : List Term) (root : ℕ) (block : Derivation) (names : List ℕ) (space : Space) (loaded : Loaded) (stop : Stop) → TermsTo l own block.terms space names (Some stop) → IsLoadedTo l own root block space loaded (Some stop)
+pub steps_loaded : (theory : Theory) (names : List ℕ) (root : Option ℕ) (steps : List Step) (old new : Space) (loaded : Loaded) (laid : List LoadedStep) (clauses : List (List Literal)) → Keeps theory.language.now old new → StaysSorted theory.language.now old new →
+    PutsSteps theory names steps old new laid clauses loaded.stop → IsGraph new.graph → Holds loaded (option_map (node_of names) root) laid clauses → LoadsSteps theory names root steps old new loaded
+steps_loaded theory names root steps old new loaded laid clauses kept stays puts graph holds = record {
+  each = λ l own terms trees t sorted good shown.
+      loaded_to l own root (record { terms = terms; steps = steps }) names new loaded laid clauses trees loaded.stop good (all_later kept.later shown) graph (stays.sorted l t.language sorted) holds
+      (puts.each l trees t sorted shown);
+  over = λ l trees t sorted shown. subst (λ (cs : List (List Literal)). AreOver names (length trees) steps cs) (sym holds.clauses_are) (over_to l trees names steps new laid clauses loaded.stop (puts.each l trees t sorted shown));
+}
+
+pub block_loaded : (theory : Theory) (own : List Term) (root : ℕ) (block : Derivation) (names : List ℕ) (old first mid new : Space) (loaded : Loaded) → Sorts theory.language.now old first → StaysSorted theory.language.now first mid →
+    PutsTerms theory.language.now own block.terms first mid names None → LoadsSteps theory names (Some root) block.steps mid new loaded → (l : Language) → IsTheory theory l → KnowsSorts l old → IsLoaded l own (Some root) block new loaded
+block_loaded theory own root block names old first mid new loaded begun sorted terms loads l t known =
+    let first_sorted = begun.known l t.language known in
+    let b = terms.each l t.language first_sorted in
+    loads.each l own block.terms b.trees t (sorted.sorted l t.language first_sorted) b.good b.shown
+
+stopped_to : (l : Language) (own : List Term) (root : Option ℕ) (block : Derivation) (names : List ℕ) (space : Space) (loaded : Loaded) (stop : Stop) → TermsTo l own block.terms space names (Some stop) → IsLoadedTo l own root block space loaded (Some stop)
 stopped_to l own root block names space loaded (s.BadTerm i) k = k
 stopped_to l own root block names space loaded s.Limit k = k
 stopped_to l own root block names space loaded (s.LimitAt i) k = absurd k
 stopped_to l own root block names space loaded (s.UnnamedAt i) k = absurd k
 
-pub block_stopped : (theory : Theory) (own : List Term) (root : ℕ) (block : Derivation) (names : List ℕ) (old first new : Space) (loaded : Loaded) (stop : Stop) → Sorts theory.language.now old first → PutsTerms theory.language.now own block.terms first new names (Some stop) →
-    (l : Language) → IsTheory theory l → KnowsSorts l old → IsLoadedTo l own root block new loaded (Some stop)
-block_stopped theory own root block names old first new loaded stop begun terms l t known =
-    stopped_to l own root block names new loaded stop (terms.each l t.language (begun.known l t.language known))
+pub block_stopped : (theory : Theory) (own : List Term) (root : ℕ) (block : Derivation) (names : List ℕ) (old first new : Space) (loaded : Loaded) (stop : Stop) → loaded.stop ≡ Some stop → Sorts theory.language.now old first → PutsTerms theory.language.now own block.terms first new names (Some stop) →
+    (l : Language) → IsTheory theory l → KnowsSorts l old → IsLoaded l own (Some root) block new loaded
+block_stopped theory own root block names old first new loaded stop is begun terms l t known =
+    subst (λ (o : Option Stop). IsLoadedTo l own (Some root) block new loaded o) (sym is)
+    (stopped_to l own (Some root) block names new loaded stop (terms.each l t.language (begun.known l t.language known)))
+
+-- ---- terms behind others
+
+pub behind_limit : (code : Code) (added : List Term) (old new : Space) (before more : List ℕ) → IsPastLimit new → PutsBehind code added old before new more (Some s.Limit)
+behind_limit code added old new before more past = record { each = λ l first is s all. past }
+
+pub puts_behind : (code : Code) (added : List Term) (old first new : Space) (before more : List ℕ) (stop : Option Stop) → Keeps code old first → Sorts code old first → PutsAdded code added first before new more stop → PutsBehind code added old before new more stop
+puts_behind code added old first new before more stop kept sorts puts = record {
+  each = λ l trees is known all. puts.each l trees is (sorts.known l is known) (all_later kept.later all);
+}

@@ -16,11 +16,11 @@ use Rattle.cert_format.specs.declared.certificate.RuleName.TheVariants as r
 use Rattle.cert_format.specs.declared.certificate.Step.{Step}
 use Rattle.block_layout.specs.declared.loaded.LoadedStep.{LoadedStep}
 
--- The terms, their sorts, the root of the condition, and the steps with their clauses.
+-- The terms, their sorts, the root of the condition (a lemma has none), and the steps with their clauses.
 pub record Laid : Type 0 where
   pub nodes : List Term
   pub sorts : List (Option Sort)
-  pub root : ℕ
+  pub root : Option ℕ
   pub steps : List LoadedStep
   pub clauses : List (List Literal)
 
@@ -103,12 +103,12 @@ pub record IsLaid (l : Language) (trees : List Formula) (nodes : List Term) (nam
   pub instance : IsNode nodes (instance_in l trees step) laid.instance
 
 -- The steps are laid out in a list of terms in which no term stands twice, with the block's trees at the names; the clause of each names terms alone.
-pub record IsLayout (l : Language) (trees : List Formula) (root : ℕ) (steps : List Step) (laid : Laid) : Type 0 where
+pub record IsLayout (l : Language) (trees : List Formula) (root : Option ℕ) (steps : List Step) (laid : Laid) : Type 0 where
   pub graph : IsGraph laid.nodes
   pub sorts : AreSortsIn l laid.nodes laid.sorts
   pub names : List ℕ
   pub shown : StandAll laid.nodes names trees
-  pub root_is : laid.root ≡ node_of names root
+  pub root_is : laid.root ≡ option_map (node_of names) root
   pub count : length laid.steps ≡ length steps
   pub each : (i : ℕ) (step : Step) (x : LoadedStep) → slice_get steps i ≡ Some step → slice_get laid.steps i ≡ Some x → IsLaid l trees laid.nodes names step x
   pub clauses : laid.clauses ≡ map (clause_in names) steps

@@ -15,7 +15,7 @@ use Rattle.block_layout.specs.declared.loaded.Stop.{Stop}
 use Rattle.block_layout.specs.declared.loaded.Stop.TheVariants as s
 use Rattle.block_layout.specs.declared.space.Space.{Space}
 use Rattle.block_layout.specs.declared.space.Theory.{Theory}
-use Rattle.block_layout.specs.Space.{IsSorted, IsTheory}
+use Rattle.block_layout.specs.Space.{IsSorted, KnowsSorts, IsTheory}
 use Rattle.block_layout.specs.Trees.{Grow, tree_over, sorted_tree, AreTrees, IsFirstBad}
 use Rattle.block_layout.specs.Layout.{Laid, IsLaid, IsLayout, NamesTerms, clause_in}
 
@@ -31,6 +31,12 @@ pub record IsUnnamed (steps : List Step) (count : ℕ) (s : ℕ) : Type 0 where
   pub step : Step
   pub at : slice_get steps s ≡ Some step
   pub unnamed : NamesTerms count step.clause → ⊥
+
+-- the loading came as far as to steps
+abbrev pub has_steps : Option Stop → Bool
+has_steps (Some (s.BadTerm k)) = false
+has_steps (Some s.Limit) = false
+has_steps _ = true
 
 -- ---- what each part of loading answers
 
@@ -68,6 +74,10 @@ AddedTo l first added space names (Some _) = ⊥
 
 pub record PutsAdded (code : Code) (added : List Term) (old : Space) (names : List ℕ) (new : Space) (more : List ℕ) (stop : Option Stop) : Type 0 where
   pub each : (l : Language) (first : List Formula) → IsLanguage code l → IsSorted l old → StandAll old.graph names first → AddedTo l first added new more stop
+
+-- the same, where the sorts may be those of fewer terms
+pub record PutsBehind (code : Code) (added : List Term) (old : Space) (names : List ℕ) (new : Space) (more : List ℕ) (stop : Option Stop) : Type 0 where
+  pub each : (l : Language) (first : List Formula) → IsLanguage code l → KnowsSorts l old → StandAll old.graph names first → AddedTo l first added new more stop
 
 -- the first added terms, so many, have trees behind the first ones, which stand at the names
 pub record AddedFront (code : Code) (added : List Term) (count : ℕ) (old : Space) (names : List ℕ) (new : Space) (more : List ℕ) : Type 0 where
@@ -114,25 +124,23 @@ pub record StepsFront (theory : Theory) (names : List ℕ) (steps : List Step) (
 -- ---- what loading answers
 
 -- what is laid out in the graph
-abbrev pub laid_in : Space → ℕ → Loaded → Laid
-laid_in space root loaded = record {
+abbrev pub laid_in : Space → Loaded → Laid
+laid_in space loaded = record {
   nodes = space.graph;
   sorts = space.sorts;
-  root = root;
+  root = loaded.clauses.root;
   steps = loaded.steps.items;
   clauses = loaded.clauses.list.items;
 }
 
 -- The first steps, so many, are laid out over the block's trees.
-pub record AreLaid (l : Language) (own : List Term) (root : ℕ) (block : Derivation) (space : Space) (loaded : Loaded) (count : ℕ) : Type 0 where
+pub record AreLaid (l : Language) (own : List Term) (root : Option ℕ) (block : Derivation) (space : Space) (loaded : Loaded) (count : ℕ) : Type 0 where
   pub trees : List Formula
   pub good : AreTrees l own block.terms trees
-  pub node : ℕ
-  pub root_node : loaded.clauses.root ≡ Some node
-  pub layout : IsLayout l trees root (take count block.steps) (laid_in space node loaded)
+  pub layout : IsLayout l trees root (take count block.steps) (laid_in space loaded)
 
 -- The block is loaded: all of it; or up to its first bad term; or up to where the graph passed the limit, behind a term or behind the instance of a step; or up to a step whose clause names no term.
-abbrev pub IsLoadedTo : Language → List Term → ℕ → Derivation → Space → Loaded → Option Stop → Type 0
+abbrev pub IsLoadedTo : Language → List Term → Option ℕ → Derivation → Space → Loaded → Option Stop → Type 0
 IsLoadedTo l own root block space loaded None = AreLaid l own root block space loaded (length block.steps) × IsWithinLimit space
 IsLoadedTo l own root block space loaded (Some (s.BadTerm k)) = IsFirstBad l own block.terms k
 IsLoadedTo l own root block space loaded (Some s.Limit) = IsPastLimit space
@@ -140,5 +148,17 @@ IsLoadedTo l own root block space loaded (Some (s.LimitAt i)) = AreLaid l own ro
 IsLoadedTo l own root block space loaded (Some (s.UnnamedAt i)) =
     (laid : AreLaid l own root block space loaded i) × IsUnnamed block.steps (length laid.trees) i × IsWithinLimit space
 
-abbrev pub IsLoaded : Language → List Term → ℕ → Derivation → Space → Loaded → Type 0
+abbrev pub IsLoaded : Language → List Term → Option ℕ → Derivation → Space → Loaded → Type 0
 IsLoaded l own root block space loaded = IsLoadedTo l own root block space loaded loaded.stop
+
+-- the clauses are those of the first steps, so many, over the names; each names one of so many terms
+pub record AreOver (names : List ℕ) (terms : ℕ) (steps : List Step) (clauses : List (List Literal)) : Type 0 where
+  pub many : ℕ
+  pub are : clauses ≡ map (clause_in names) (take many steps)
+  pub named : (i : ℕ) (step : Step) → slice_get (take many steps) i ≡ Some step → NamesTerms terms step.clause
+
+-- Some steps are loaded, over names at which terms were put before: whichever block has them and these terms, it is loaded.
+pub record LoadsSteps (theory : Theory) (names : List ℕ) (root : Option ℕ) (steps : List Step) (old new : Space) (loaded : Loaded) : Type 0 where
+  pub each : (l : Language) (own terms : List Term) (trees : List Formula) → IsTheory theory l → IsSorted l old → AreTrees l own terms trees → StandAll old.graph names trees
+      → IsLoaded l own root (record { terms = terms; steps = steps }) new loaded
+  pub over : (l : Language) (trees : List Formula) → IsTheory theory l → IsSorted l old → StandAll old.graph names trees → AreOver names (length trees) steps loaded.clauses.list.items

@@ -1,13 +1,14 @@
 //! The loading of a block.
 
-ghost use Rattle.std.specs.Prelude.{◌≡◌, ℕ, ◌≤◌, ◌<◌, ◌↔◌, List, IsTrue, [], length, take, slice_get, IfOk, OnOk, Option, Some, option_and_then, false, All};
+ghost use Rattle.std.specs.Prelude.{◌≡◌, ℕ, ◌≤◌, ◌<◌, ◌↔◌, List, IsTrue, [], length, take, slice_get, IfOk, OnOk, Option, Some, option_and_then, option_map, true, false, All};
 ghost use Rattle.terms.specs.Formula.{Formula};
 ghost use Rattle.term_meaning.specs.Meaning.{Language as Meant};
 ghost use Rattle.condition_formulas.specs.Standing.{StandsAs, StandAll};
 ghost use Rattle.block_layout.specs.Space.{Keeps, Sorts, StaysSorted, IsSorted, KnowsSorts, IsTheory};
 ghost use Rattle.block_layout.specs.Trees.{tree_over};
-ghost use Rattle.block_layout.specs.Layout.{IsNode, NamesTerms, instance_in, truth_value as truths};
-ghost use Rattle.block_layout.specs.Loading.{IsLoaded, IsWithinLimit, PutsOwn, PutsAdded, PutsTerms, PutsSteps, IfNone};
+ghost use Rattle.block_layout.specs.Layout.{IsNode, NamesTerms, instance_in, node_of as named_by, truth_value as truths};
+ghost use Rattle.block_layout.specs.Loading.{IsLoaded, IsWithinLimit, LoadsSteps, PutsOwn, PutsAdded, PutsBehind};
+ghost use Rattle.block_layout.specs.Loading.{PutsTerms, PutsSteps, IfNone, has_steps};
 
 use crate::loaded::{Loaded, LoadedStep, Stop};
 use crate::names::{are_below, clause_over, names_terms, node_of, nodes_of, numbers_over};
@@ -198,6 +199,7 @@ fn put_steps(
     requires no_clauses { clauses.old.items ≡ [] }
     requires limit { IsWithinLimit space.old }
     ensures put { IfOk result (PutsSteps theory.entry names.now steps.now space.old space.new loaded.new.items clauses.new.items) }
+    ensures began { IfOk result (λ stop. has_steps stop ≡ true) }
     ensures kept { Keeps theory.entry.language.now space.old space.new }
     ensures sorted { OnOk result (StaysSorted theory.entry.language.now space.old space.new) }
 {
@@ -222,6 +224,86 @@ fn put_steps(
     Ok(None)
 }
 
+/// Puts more terms into the graph, behind those that have these names, and names them, up to the first bad one or the
+/// limit.
+///
+/// # Errors
+/// Where memory is refused.
+pub fn load_terms(
+    alloc: Global,
+    language: &Language,
+    added: &[Term],
+    space: &mut Space,
+    names: &mut Vec<u32>,
+) -> Result<Option<Stop>, AllocError>
+    ensures put { IfOk result (PutsBehind language.now added.now space.old names.old.items space.new names.new.items) }
+    ensures few { IfOk result (IfNone (IsWithinLimit space.new)) }
+    ensures kept { Keeps language.now space.old space.new }
+    ensures sorted { OnOk result (Sorts language.now space.old space.new) }
+{
+    space.sort_all(alloc, language)?;
+    if space.is_past_limit() {
+        return Ok(Some(Stop::Limit));
+    }
+    let stop = put_added(alloc, language, added, space, names)?;
+    Ok(stop)
+}
+
+/// The node of the block's root, where it has one.
+fn root_node(names: &[u32], root: Option<u32>) -> Option<u32>
+    ensures { result ≡ option_map (named_by names.now) root }
+{
+    match root {
+        Some(root) => Some(node_of(names, root)),
+        None => None,
+    }
+}
+
+/// Lays out steps over the names of a block's terms: puts the instances of its `axiom` steps into the graph, up to the
+/// limit, or a clause that names no term.
+///
+/// # Errors
+/// Where memory is refused.
+pub fn load_steps(
+    alloc: Global,
+    theory: Theory<'_>,
+    names: &[u32],
+    root: Option<u32>,
+    steps: &[Step],
+    space: &mut Space,
+) -> Result<Loaded, AllocError>
+    requires limit { IsWithinLimit space.old }
+    ensures loaded { IfOk result (LoadsSteps theory.entry names.now root steps.now space.old space.new) }
+    ensures began { IfOk result (λ loaded. has_steps loaded.stop ≡ true) }
+    ensures kept { Keeps theory.entry.language.now space.old space.new }
+    ensures sorted { OnOk result (StaysSorted theory.entry.language.now space.old space.new) }
+{
+    let mut laid = Vec::new(alloc);
+    let mut list = Vec::new(alloc);
+    let stop = put_steps(alloc, theory, names, steps, space, &mut laid, &mut list)?;
+    space.known();
+    let root = root_node(names, root);
+    Ok(Loaded {
+        stop,
+        clauses: Clauses { root, list },
+        steps: laid,
+    })
+}
+
+/// A block whose terms were not all loaded.
+fn without_steps(alloc: Global, stop: Stop) -> Loaded
+    ensures { result.stop ≡ Some stop }
+{
+    Loaded {
+        stop: Some(stop),
+        clauses: Clauses {
+            root: None,
+            list: Vec::new(alloc),
+        },
+        steps: Vec::new(alloc),
+    }
+}
+
 /// Loads a block of the condition with these own terms and this root: puts its terms into the graph, the condition's
 /// own and then the added ones, and the instances of its `axiom` steps, and lays out its steps, up to the first bad
 /// term, the limit, or a clause that names no term.
@@ -236,15 +318,13 @@ pub fn load(
     block: &Refutation,
     space: &mut Space,
 ) -> Result<Loaded, AllocError>
-    ensures loaded { (l : Meant) → IsTheory theory.entry l → KnowsSorts l space.old → IfOk result (IsLoaded l own.now root block.now space.new) }
+    ensures loaded { (l : Meant) → IsTheory theory.entry l → KnowsSorts l space.old → IfOk result (IsLoaded l own.now (Some root) block.now space.new) }
     ensures kept { Keeps theory.entry.language.now space.old space.new }
     ensures sorted { OnOk result (Sorts theory.entry.language.now space.old space.new) }
 {
     space.sort_all(alloc, theory.language)?;
     let mut names = Vec::new(alloc);
-    let mut steps = Vec::new(alloc);
-    let mut list = Vec::new(alloc);
-    let terms = put_terms(
+    let stop = put_terms(
         alloc,
         theory.language,
         own,
@@ -252,27 +332,9 @@ pub fn load(
         space,
         &mut names,
     )?;
-    if let Some(stop) = terms {
-        return Ok(Loaded {
-            stop: Some(stop),
-            clauses: Clauses { root: None, list },
-            steps,
-        });
+    if let Some(stop) = stop {
+        return Ok(without_steps(alloc, stop));
     }
-    let stop = put_steps(
-        alloc,
-        theory,
-        &names,
-        block.steps(),
-        space,
-        &mut steps,
-        &mut list,
-    )?;
-    space.known();
-    let root = Some(node_of(&names, root));
-    Ok(Loaded {
-        stop,
-        clauses: Clauses { root, list },
-        steps,
-    })
+    let loaded = load_steps(alloc, theory, &names, Some(root), block.steps(), space)?;
+    Ok(loaded)
 }

@@ -31,7 +31,7 @@ small block terms steps literals = record { terms = terms; steps = steps; litera
 
 -- what follows is true
 pub proves_valid : {E : Type 0} (l : Language) (f : Formula) (result : Result Proof E) → Proves l f result → ProvesValid l f result
-proves_valid l f (Ok (p.Refuted block)) k = follows_valid l f block k
+proves_valid l f (Ok (p.Refuted block)) k = follows_valid l [] f block k
 proves_valid l f (Ok p.Open) k = tt
 proves_valid l f (Ok p.Spent) k = tt
 proves_valid l f (Err e) k = tt

@@ -1,5 +1,5 @@
 -- What the prover's answers promise. Own.
-use Rattle.std.specs.Prelude.{◌≤◌, Result, Ok, Err, length}
+use Rattle.std.specs.Prelude.{◌≤◌, Result, Ok, Err, [], length}
 use Rattle.terms.specs.Formula.{Formula}
 use Rattle.term_meaning.specs.Meaning.{Language, IsFaithful, IsValid}
 use Rattle.term_meaning.specs.Filling.{IsLayered}
@@ -16,9 +16,9 @@ pub record IsOfLanguage (theory : Theory) : Type 0 where
   pub language : Language
   pub is : IsTheory theory language
 
--- a refutation that is answered is one by which the condition follows
+-- a refutation that is answered is one by which the condition follows, without lemmas
 abbrev pub Proves : {E : Type 0} → Language → Formula → Result Proof E → Type 0
-Proves l f (Ok (p.Refuted block)) = Follows l f block
+Proves l f (Ok (p.Refuted block)) = Follows l [] f block
 Proves l f (Ok p.Open) = Unit {0}
 Proves l f (Ok p.Spent) = Unit {0}
 Proves l f (Err _) = Unit {0}

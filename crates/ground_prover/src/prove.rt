@@ -17,6 +17,7 @@ use graph_numbering::numbering::number;
 use graph_numbering::places::Places;
 use refutation_check::answer::{Answer, CheckFault};
 use refutation_check::check::check_one;
+use refutation_check::held::Lemmas;
 use std::alloc::{AllocError, Global};
 use term_graph::graph::Graph;
 
@@ -52,10 +53,11 @@ fn follows(
 ) -> Result<bool, AllocError>
     requires { IsOfLanguage theory }
     ensures { (l : Language) (f : Formula) → IsTheory theory.entry l → Numbers f [] own.now root
-        → IfOk result (λ yes. IsTrue yes → Follows l f block.now) }
+        → IfOk result (λ yes. IsTrue yes → Follows l [] f block.now) }
 {
     let mut space = Space::new(alloc);
-    let answer = check_one(alloc, theory, own, root, block, &mut space);
+    let lemmas = Lemmas::none(alloc);
+    let answer = check_one(alloc, theory, &lemmas, own, root, block, &mut space);
     match answer {
         Ok(answer) => Ok(is_follows(answer)),
         Err(fault) => no_proof(fault),

@@ -1,5 +1,5 @@
 -- The clauses of a layout name nodes.
-use Rattle.std.proofs.Common.{◌≡◌, ℕ, zero, suc, ◌<◌, List, [], ◌∷◌, map, length, Some, slice_get, refl, subst}
+use Rattle.std.proofs.Common.{◌≡◌, ℕ, zero, suc, ◌<◌, List, [], ◌∷◌, map, length, Option, Some, slice_get, refl, subst}
 use Rattle.std.proofs.lemmas.List.Elements.{All-head, All-tail, All-nil, All-cons}
 use Rattle.terms.specs.declared.term.Term.{Term}
 use Rattle.terms.specs.declared.term.Literal.{Literal}
@@ -27,7 +27,7 @@ over_within nodes names trees (l ∷ ls) all h =
     All-cons (λ (l : Literal). l.term < length nodes) (literal_over names l) (clause_over names ls) (stands_within nodes (node_of names l.term) f s.tree)
     (over_within nodes names trees ls all (All-tail (λ (x : Literal). x.term < length trees) l ls h))
 
-pub layout_within : (l : Language) (trees : List Formula) (root : ℕ) (steps : List Step) (laid : Laid) → IsLayout l trees root steps laid → AreWithin (length laid.nodes) laid.clauses
+pub layout_within : (l : Language) (trees : List Formula) (root : Option ℕ) (steps : List Step) (laid : Laid) → IsLayout l trees root steps laid → AreWithin (length laid.nodes) laid.clauses
 layout_within l trees root steps laid k i c h =
     let (step, at, same) = get_map (clause_in k.names) steps i c (subst (λ (cs : List (List Literal)). slice_get cs i ≡ Some c) k.clauses h) in
     subst (λ (x : List Literal). IsWithin (length laid.nodes) x) same (over_within laid.nodes k.names trees step.clause k.shown (k.named i step at))

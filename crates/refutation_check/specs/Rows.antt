@@ -15,14 +15,19 @@ use Rattle.vcc_rules.specs.declared.rule.Clauses.{Clauses}
 use Rattle.block_layout.specs.declared.loaded.LoadedStep.{LoadedStep}
 use Rattle.block_layout.specs.declared.space.Space.{Space}
 use Rattle.block_layout.specs.Layout.{Laid}
+use Rattle.refutation_check.specs.Theorems.{Theorems, AreHeld, IsLemma}
 
 -- axiom N P args t: t is the instance, and true
 abbrev pub IsAxiom : Option ℕ → List ℤ → List Literal → Type 0
 IsAxiom None numbers clause = ⊥
 IsAxiom (Some t) numbers clause = (before : List ℤ) × (numbers ≡ before ++ pos t ∷ []) × (clause ≡ yes t ∷ [])
 
-module _ (nodes : List Term) (sorts : List (Option Sort)) (root : Option ℕ) (clauses : List (List Literal)) (below : ℕ) (step : LoadedStep) (clause : List Literal) where
-  -- The rule's row gives the clause from the first clauses, so many. A lemma gives none yet.
+-- the step names one lemma, of which this clause is held
+abbrev pub IsCited : List (Option (List Literal)) → List ℤ → List Literal → Type 0
+IsCited held numbers clause = (j : ℕ) × (numbers ≡ pos j ∷ []) × (slice_get held j ≡ Some (Some clause))
+
+module _ (theorems : Theorems) (nodes : List Term) (sorts : List (Option Sort)) (root : Option ℕ) (clauses : List (List Literal)) (below : ℕ) (step : LoadedStep) (clause : List Literal) where
+  -- The rule's row gives the clause from the first clauses, so many, and the theorems.
   abbrev pub IsRow : RuleName → Type 0
   IsRow r.Root = IsRoot root step.numbers clause
   IsRow r.Conn = IsConnective nodes step.numbers clause
@@ -36,8 +41,9 @@ module _ (nodes : List Term) (sorts : List (Option Sort)) (root : Option ℕ) (c
   IsRow r.Split = IsSplit sorts nodes step.numbers clause
   IsRow r.Map = IsMap sorts nodes step.numbers clause
   IsRow r.Axiom = IsAxiom step.instance step.numbers clause
-  IsRow r.Lemma = ⊥
+  IsRow r.Lemma = IsLemma theorems nodes step.numbers clause
 
+module _ (nodes : List Term) (sorts : List (Option Sort)) (root : Option ℕ) (clauses : List (List Literal)) (below : ℕ) (step : LoadedStep) (clause : List Literal) where
   -- the first number that the row works out and that leaves 128 bits, by its operands
   abbrev pub RowLeaves : RuleName → Wide → Type 0
   RowLeaves r.Linear w = LinearLeaves sorts nodes step.numbers clause w
@@ -48,10 +54,11 @@ module _ (nodes : List Term) (sorts : List (Option Sort)) (root : Option ℕ) (c
   abbrev pub RowFits : RuleName → Type 0
   RowFits rule = (w : Wide) → RowLeaves rule w → ⊥
 
--- yes, exactly where the row of the step's rule gives the clause
-abbrev pub DecidesRow : Space → Clauses → ℕ → LoadedStep → List Literal → Result Bool Wide → Type 0
-DecidesRow space clauses below step clause result =
-    IfOk result (λ yes. IsTrue yes ↔ IsRow space.graph space.sorts clauses.root clauses.list.items below step clause step.rule)
+-- yes, exactly where the row of the step's rule gives the clause from what is held of the lemmas
+abbrev pub DecidesRow : Space → List (Option (List Literal)) → Clauses → ℕ → LoadedStep → List Literal → Result Bool Wide → Type 0
+DecidesRow space known clauses below step clause result =
+    (theorems : Theorems) → AreHeld space.graph known theorems
+    → IfOk result (λ yes. IsTrue yes ↔ IsRow theorems space.graph space.sorts clauses.root clauses.list.items below step clause step.rule)
 
 -- the operands of a fault are those of the first number that leaves 128 bits
 abbrev pub DecidesWide : Space → Clauses → ℕ → LoadedStep → List Literal → Result Bool Wide → Type 0
@@ -63,14 +70,14 @@ abbrev pub DecidesWithin : Space → Clauses → ℕ → LoadedStep → List Lit
 DecidesWithin space clauses below step clause result =
     IfOk result (λ yes. RowFits space.graph space.sorts clauses.root clauses.list.items below step clause step.rule)
 
--- The laid out step with this number is given from those before it, and is worked out within 128 bits.
-pub record IsGivenAt (laid : Laid) (i : ℕ) : Type 0 where
+-- The laid out step with this number is given from those before it and the theorems, and is worked out within 128 bits.
+pub record IsGivenAt (theorems : Theorems) (laid : Laid) (i : ℕ) : Type 0 where
   pub step : LoadedStep
   pub clause : List Literal
   pub at : slice_get laid.steps i ≡ Some step
   pub clause_at : slice_get laid.clauses i ≡ Some clause
-  pub row : IsRow laid.nodes laid.sorts (Some laid.root) laid.clauses i step clause step.rule
-  pub within : RowFits laid.nodes laid.sorts (Some laid.root) laid.clauses i step clause step.rule
+  pub row : IsRow theorems laid.nodes laid.sorts laid.root laid.clauses i step clause step.rule
+  pub within : RowFits laid.nodes laid.sorts laid.root laid.clauses i step clause step.rule
 
 -- working it out leaves 128 bits, first at these operands
 pub record LeavesAt (laid : Laid) (i : ℕ) (w : Wide) : Type 0 where
@@ -78,4 +85,4 @@ pub record LeavesAt (laid : Laid) (i : ℕ) (w : Wide) : Type 0 where
   pub clause : List Literal
   pub at : slice_get laid.steps i ≡ Some step
   pub clause_at : slice_get laid.clauses i ≡ Some clause
-  pub leaves : RowLeaves laid.nodes laid.sorts (Some laid.root) laid.clauses i step clause step.rule w
+  pub leaves : RowLeaves laid.nodes laid.sorts laid.root laid.clauses i step clause step.rule w

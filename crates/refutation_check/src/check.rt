@@ -2,12 +2,14 @@
 
 ghost use Rattle.std.specs.Prelude.{◌≡◌, length};
 ghost use Rattle.term_meaning.specs.Meaning.{Language};
+ghost use Rattle.block_layout.specs.Loading.{has_steps as has_steps_of};
 ghost use Rattle.block_layout.specs.Space.{IsTheory, IsSomeTheory, KnowsSorts, Keeps};
-ghost use Rattle.refutation_check.specs.Judging.{has_steps as has_steps_of, IsUnloaded, IsEnding};
+ghost use Rattle.refutation_check.specs.Judging.{IsUnloaded, IsEnding};
 ghost use Rattle.refutation_check.specs.Judging.{IsWhole, IsSomeLoaded, Judges};
 ghost use Rattle.refutation_check.specs.Follows.{Answers, TellsFollows, TellsValid};
 
 use crate::answer::{Answer, CheckFault};
+use crate::held::Lemmas;
 use crate::steps::{ends_empty, first_failure};
 use block_layout::load::load;
 use block_layout::loaded::{Loaded, Stop};
@@ -74,24 +76,25 @@ fn ending(loaded: &Loaded) -> Result<Answer, CheckFault>
     }
 }
 
-/// What a loaded block shows of its condition. It takes no memory.
+/// What a loaded block shows of its condition, by the lemmas. It takes no memory.
 ///
 /// # Errors
 /// `Limit`, where loading ended since the graph has more nodes than it may; `Wide`, where a number leaves 128 bits.
 #[tactic(auto, using(crate::proofs::Verdicts::judges_unloaded, crate::proofs::Verdicts::judges_wide, crate::proofs::Verdicts::judges_failure, crate::proofs::Verdicts::judges_ending, crate::proofs::Verdicts::within, crate::proofs::Verdicts::steps_long))]
 pub fn check_loaded(
     space: &Space,
+    lemmas: &Lemmas,
     loaded: &Loaded,
     scratch: &mut Scratch,
 ) -> Result<Answer, CheckFault>
     requires loaded { IsSomeLoaded space.now loaded.now }
     requires room { scratch.old ≡ length space.now.graph }
-    ensures { Judges space.now loaded.now result }
+    ensures { Judges space.now lemmas.now.clauses.items loaded.now result }
 {
     if !has_steps(loaded.stop) {
         return unloaded(loaded.stop);
     }
-    let failure = first_failure(space, loaded, scratch);
+    let failure = first_failure(space, lemmas, loaded, scratch);
     match failure {
         Err(wide) => Err(CheckFault::Wide(wide)),
         Ok(Some(s)) => Ok(Answer::FailsAt(s)),
@@ -104,24 +107,25 @@ pub fn check_loaded(
 fn judge(
     alloc: Global,
     theory: Theory<'_>,
+    lemmas: &Lemmas,
     own: &Graph,
     root: u32,
     block: &Refutation,
     space: &mut Space,
 ) -> Result<Answer, CheckFault>
     requires theory { IsSomeTheory theory space.old }
-    ensures answer { Answers theory.entry space.old own.now root block.now result }
+    ensures answer { Answers theory.entry space.old lemmas.now own.now root block.now result }
     ensures kept { Keeps theory.entry.language.now space.old space.new }
 {
     let loaded = load(alloc, theory, own, root, block, space)?;
     let mut scratch = Scratch::new(alloc);
     scratch.reserve(space.graph.len())?;
-    check_loaded(space, &loaded, &mut scratch)
+    check_loaded(space, lemmas, &loaded, &mut scratch)
 }
 
-/// What a block shows of its condition. The own terms are the condition's, numbered children before parents, left to
-/// right, equal ones once, and `root` is its number there. The space is as before at every exit, but for its sorts,
-/// which may be those of fewer nodes.
+/// What a block shows of its condition, by the lemmas, which are held over the nodes of the space. The own terms are the
+/// condition's, numbered children before parents, left to right, equal ones once, and `root` is its number there. The
+/// space is as before at every exit, but for its sorts, which may be those of fewer nodes.
 ///
 /// # Errors
 /// `Limit`, where more than 1,048,576 nodes stand in the space; `Wide`, where a number leaves 128 bits; `OutOfMemory`,
@@ -129,21 +133,22 @@ fn judge(
 pub fn check_one(
     alloc: Global,
     theory: Theory<'_>,
+    lemmas: &Lemmas,
     own: &Graph,
     root: u32,
     block: &Refutation,
     space: &mut Space,
 ) -> Result<Answer, CheckFault>
     requires theory { IsSomeTheory theory space.old }
-    ensures answer { Answers theory.entry space.old own.now root block.now result }
-    ensures follows { TellsFollows theory.entry space.old own.now root block.now result }
-    ensures valid { TellsValid theory.entry space.old own.now root block.now result }
+    ensures answer { Answers theory.entry space.old lemmas.now own.now root block.now result }
+    ensures follows { TellsFollows theory.entry space.old lemmas.now own.now root block.now result }
+    ensures valid { TellsValid theory.entry space.old lemmas.now own.now root block.now result }
     ensures released { space.new.graph ≡ space.old.graph }
     ensures sorts { (l : Language) → IsTheory theory.entry l → KnowsSorts l space.old → KnowsSorts l space.new }
 {
     space.known();
     let mark = space.mark();
-    let answer = judge(alloc, theory, own, root, block, space);
+    let answer = judge(alloc, theory, lemmas, own, root, block, space);
     space.known();
     space.release(mark);
     answer

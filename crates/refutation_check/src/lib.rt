@@ -3,5 +3,7 @@
 
 pub mod answer;
 pub mod check;
+pub mod held;
 pub mod laws;
+pub mod lemmas;
 mod steps;

@@ -3,9 +3,11 @@
 ghost use Rattle.std.specs.Prelude.{◌≡◌, ◌↔◌, ◌<◌, ◌≤◌, length, IsTrue, List, ℤ, pos, [], ◌∷◌, ◌++◌, slice_get, Some};
 ghost use Rattle.vcc_rules.specs.Law.{IsWithin, AreWithin};
 ghost use Rattle.refutation_check.specs.Rows.{DecidesRow, DecidesWide, DecidesWithin, IsAxiom};
+ghost use Rattle.refutation_check.specs.Theorems.{Theorems, AreHeld, IsLemma};
 ghost use Rattle.refutation_check.specs.Follows.{EndsEmpty};
 ghost use Rattle.refutation_check.specs.Judging.{IsFirstFailure};
 
+use crate::held::Lemmas;
 use block_layout::loaded::{Loaded, LoadedStep};
 use block_layout::space::Space;
 use cert_format::certificate::RuleName;
@@ -42,12 +44,22 @@ fn names_last(numbers: &[i128], node: u32) -> bool
     }
 }
 
-/// Whether the row that the step names gives its clause from those of the first steps, so many.
+/// Whether the step's clause is that of the lemma that it names.
+fn is_lemma(space: &Space, lemmas: &Lemmas, step: &LoadedStep, clause: &[Literal]) -> bool
+    ensures { (theorems : Theorems) → AreHeld space.now.graph lemmas.now.clauses.items theorems →
+        IsTrue result ↔ IsLemma theorems space.now.graph step.now.numbers clause.now }
+{
+    space.known();
+    lemmas.gives(step.numbers.as_slice(), clause)
+}
+
+/// Whether the row that the step names gives its clause from those of the first steps, so many, and the lemmas.
 ///
 /// # Errors
 /// The operands of the first number on the way that leaves 128 bits.
 fn is_given(
     space: &Space,
+    lemmas: &Lemmas,
     clauses: &Clauses,
     below: usize,
     step: &LoadedStep,
@@ -58,7 +70,7 @@ fn is_given(
     requires within { AreWithin (length space.now.graph) clauses.now.list.items }
     requires clause_within { IsWithin (length space.now.graph) clause.now }
     requires room { scratch.old ≡ length space.now.graph }
-    ensures rows { DecidesRow space.now clauses.now below step.now clause.now result }
+    ensures rows { DecidesRow space.now lemmas.now.clauses.items clauses.now below step.now clause.now result }
     ensures exact { DecidesWithin space.now clauses.now below step.now clause.now result }
     ensures wide { DecidesWide space.now clauses.now below step.now clause.now result }
     ensures room { scratch.new ≡ scratch.old }
@@ -94,7 +106,7 @@ fn is_given(
             rule.concludes(terms, clauses, below, numbers, clause, scratch)
         }
         RuleName::Axiom => Ok(is_axiom(step, clause)),
-        RuleName::Lemma => Ok(false),
+        RuleName::Lemma => Ok(is_lemma(space, lemmas, step, clause)),
     }
 }
 
@@ -113,25 +125,26 @@ fn clause_at(loaded: &Loaded, i: usize) -> &[Literal]
     clauses.list[i].literals()
 }
 
-/// The first step that isn't given from those before it.
+/// The first step that isn't given from those before it and the lemmas.
 ///
 /// # Errors
 /// The operands of the first number that leaves 128 bits, where it comes before.
 pub(crate) fn first_failure(
     space: &Space,
+    lemmas: &Lemmas,
     loaded: &Loaded,
     scratch: &mut Scratch,
 ) -> Result<Option<usize>, Wide>
     requires within { AreWithin (length space.now.graph) loaded.now.clauses.list.items }
     requires count { length loaded.now.steps.items ≡ length loaded.now.clauses.list.items }
     requires room { scratch.old ≡ length space.now.graph }
-    ensures { IsFirstFailure space.now loaded.now result }
+    ensures { IsFirstFailure space.now lemmas.now.clauses.items loaded.now result }
 {
     let clauses = &loaded.clauses;
     for i in 0..clauses.list.len() {
         let step = step_at(loaded, i);
         let clause = clause_at(loaded, i);
-        let given = is_given(space, clauses, i, step, clause, scratch)?;
+        let given = is_given(space, lemmas, clauses, i, step, clause, scratch)?;
         if !given {
             return Ok(Some(i));
         }

@@ -6,6 +6,7 @@ use Rattle.term_meaning.specs.Meaning.{Language}
 use Rattle.cert_format.specs.declared.certificate.Step.{Step}
 use Rattle.block_layout.specs.Trees.{Grow, tree_over, sorted_tree, AreTrees}
 use Rattle.block_layout.specs.Layout.{Laid, IsLayout, clause_in}
+use Rattle.refutation_check.specs.Theorems.{Theorems}
 use Rattle.refutation_check.specs.Rows.{IsGivenAt}
 use Rattle.rule_layouts.specs.Laws.{LayoutsAgree}
 use Rattle.rule_layouts.proofs.Trees.{some_is}
@@ -41,16 +42,16 @@ map_length f [] = refl
 map_length f (x ∷ xs) = ap suc (map_length f xs)
 
 laid_same :
-    (l : Language) (root : ℕ) (steps : List Step) (count many : ℕ) (one other : Laid) (trees : List Formula)
+    (l : Language) (theorems : Theorems) (root : Option ℕ) (steps : List Step) (count many : ℕ) (one other : Laid) (trees : List Formula)
     → IsLayout l trees root (take count steps) one → IsLayout l trees root (take many steps) other → length one.nodes ≤ 1_048_576
-    → (i : ℕ) → i < length other.clauses → IsGivenAt one i → IsGivenAt other i
-laid_same l root steps count many one other trees p q few i h g =
+    → (i : ℕ) → i < length other.clauses → IsGivenAt theorems one i → IsGivenAt theorems other i
+laid_same l theorems root steps count many one other trees p q few i h g =
     let long : length other.clauses ≡ length (take many steps) = ap length q.clauses ∙ map_length (clause_in q.names) (take many steps) in
-    given_same l trees root (take count steps) (take many steps) one other p q few i
+    given_same l theorems trees root (take count steps) (take many steps) one other p q few i
     (λ k s below there. in_front many steps k s (omega (arith, below, h, long)) (get_front count steps k s there)) g
 
 pub layouts_agree : LayoutsAgree
-layouts_agree l own root block count many one other p q few i h g =
-    laid_same l root block.steps count many one other p.trees p.layout
+layouts_agree l theorems own root block count many one other p q few i h g =
+    laid_same l theorems root block.steps count many one other p.trees p.layout
     (subst (λ (x : List Formula). IsLayout l x root (take many block.steps) other) (trees_same l own block.terms q.trees p.trees q.good p.good) q.layout)
     few i h g

@@ -11,3 +11,4 @@ pub mod Sides
 pub mod Steps
 pub mod Sums
 pub mod Trees
+pub mod OneList

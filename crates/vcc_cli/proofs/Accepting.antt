@@ -21,7 +21,7 @@ use Rattle.vcc_judge.specs.declared.verdict.Verdict.{Verdict as Judgment}
 use Rattle.vcc_judge.specs.declared.verdict.Verdict.TheVariants as v
 use Rattle.vcc_judge.specs.declared.verdict.JudgeFault.{JudgeFault}
 use Rattle.vcc_judge.specs.declared.verdict.JudgeFault.TheVariants as j
-use Rattle.vcc_judge.specs.Verdicts.{IsJudged, IsVerified}
+use Rattle.vcc_judge.specs.Verdicts.{IsJudged, IsVerified, LemmasFit}
 use Rattle.vcc_judge.proofs.Verified.{verified_gets_yes, yes_is_verified}
 use Rattle.vcc_base.specs.Maps.{Map}
 use Rattle.vcc_base.specs.Limits.{number_of}
@@ -53,7 +53,7 @@ module _ (m : Map) (source_name cert_name : List ℕ) (p : Program) (holds : Hol
     cert = held.bytes;
     source_held = holds.held.0;
     cert_held = held.held.0;
-    accepts = record { program = p; proofs = proofs; reads = holds.program; text = held.text; verified = yes_is_verified p proofs.blocks counted.judged };
+    accepts = record { program = p; proofs = proofs; reads = holds.program; text = held.text; verified = yes_is_verified p proofs.lemmas proofs.blocks counted.judged };
   }
 
   accepted_program : IsProgramAnswer m cert_name p (Ok Yes) → HoldAccepted m source_name cert_name
@@ -148,17 +148,17 @@ none_of_three (inr (inl b)) first second third = second b
 none_of_three (inr (inr c)) first second third = third c
 
 -- an answer of the judge that is none of these
-no_other : (p : Program) (blocks : List Derivation) (result : Result Judgment JudgeFault) → (result ≡ Ok v.Yes → ⊥) → (result ≡ Err j.Terms → ⊥) → (result ≡ Err j.OutOfMemory → ⊥) → IsVerified p blocks → IsJudged p blocks result → ⊥
-no_other p blocks result not_yes not_terms not_memory verified judged =
-    none_of_three (verified_gets_yes p blocks result verified judged) not_yes not_terms not_memory
+no_other : (p : Program) (lemmas blocks : List Derivation) (result : Result Judgment JudgeFault) → (result ≡ Ok v.Yes → ⊥) → (result ≡ Err j.Terms → ⊥) → (result ≡ Err j.OutOfMemory → ⊥) → LemmasFit (language_of p) lemmas → IsVerified p lemmas blocks → IsJudged p lemmas blocks result → ⊥
+no_other p lemmas blocks result not_yes not_terms not_memory fits verified judged =
+    none_of_three (verified_gets_yes p lemmas blocks result fits verified judged) not_yes not_terms not_memory
 
-judged_yes : (p : Program) (blocks : List Derivation) (answer : Result Verdict Refusal) → IsVerified p blocks → AreJudged p blocks answer → IsYesOrFault answer
-judged_yes p blocks (Ok Yes) verified judged = inl refl
-judged_yes p blocks (Ok (No failing)) verified judged = absurd (no_other p blocks (Ok (v.No failing.label)) (λ is. cc is) (λ is. cc is) (λ is. cc is) verified judged.1)
-judged_yes p blocks (Err (Wide w)) verified judged = absurd (no_other p blocks (Err (j.Wide w)) (λ is. cc is) (λ is. cc is) (λ is. cc is) verified judged)
-judged_yes p blocks (Err (Limit limit.Terms)) verified judged = inr (inr (inl refl))
-judged_yes p blocks (Err OutOfMemory) verified judged = inr (inl refl)
-judged_yes p blocks (Err _) verified judged = absurd judged
+judged_yes : (p : Program) (lemmas blocks : List Derivation) (answer : Result Verdict Refusal) → LemmasFit (language_of p) lemmas → IsVerified p lemmas blocks → AreJudged p lemmas blocks answer → IsYesOrFault answer
+judged_yes p lemmas blocks (Ok Yes) fits verified judged = inl refl
+judged_yes p lemmas blocks (Ok (No failing)) fits verified judged = absurd (no_other p lemmas blocks (Ok (v.No failing.label)) (λ is. cc is) (λ is. cc is) (λ is. cc is) fits verified judged.1)
+judged_yes p lemmas blocks (Err (Wide w)) fits verified judged = absurd (no_other p lemmas blocks (Err (j.Wide w)) (λ is. cc is) (λ is. cc is) (λ is. cc is) fits verified judged)
+judged_yes p lemmas blocks (Err (Limit limit.Terms)) fits verified judged = inr (inr (inl refl))
+judged_yes p lemmas blocks (Err OutOfMemory) fits verified judged = inr (inl refl)
+judged_yes p lemmas blocks (Err _) fits verified judged = absurd judged
 
 module _ (m : Map) (cert_name source cert : List ℕ) (accepted : IsAcceptable source cert) (held : m cert_name ≡ Some cert) (p : Program) (reads : IsProgramOf source p) where
   -- a certificate that this name holds is the one that is accepted
@@ -167,17 +167,18 @@ module _ (m : Map) (cert_name source cert : List ℕ) (accepted : IsAcceptable s
       let same : bytes ≡ cert = one_value (m cert_name) bytes cert there held in
       one_certificate cert accepted.proofs proofs accepted.cert_text (subst (λ (b : List ℕ). IsCertText b proofs) same text)
 
-  verified_by : (proofs : Proofs) → accepted.proofs ≡ proofs → IsVerified p proofs.blocks
-  verified_by proofs same = subst (λ (q : Proofs). IsVerified p q.blocks) same (accepted.verified p reads)
+  verified_by : (proofs : Proofs) → accepted.proofs ≡ proofs → IsVerified p proofs.lemmas proofs.blocks
+  verified_by proofs same = subst (λ (q : Proofs). IsVerified p q.lemmas q.blocks) same (accepted.verified p reads)
 
   certificate_yes : (answer : Result Verdict Refusal) → IsCertificateAnswer m cert_name p answer → IsYesOrFault answer
   certificate_yes answer (inl refused) =
       subst IsYesOrFault (sym refused.is) (stopped m cert_name cert accepted.proofs refused.refusal held accepted.cert_short accepted.cert_text refused.why)
   certificate_yes answer (inr (proofs, holds, inl miscounted)) =
-      let verified : IsVerified p proofs.blocks = verified_by proofs (same_proofs proofs holds.bytes holds.held.0 holds.text) in
-      absurd (miscounted.differ (one_block_each (language_of p) (conditions p) proofs.blocks verified))
+      let verified : IsVerified p proofs.lemmas proofs.blocks = verified_by proofs (same_proofs proofs holds.bytes holds.held.0 holds.text) in
+      absurd (miscounted.differ (one_block_each (language_of p) proofs.lemmas (conditions p) proofs.blocks verified))
   certificate_yes answer (inr (proofs, holds, inr counted)) =
-      judged_yes p proofs.blocks answer (verified_by proofs (same_proofs proofs holds.bytes holds.held.0 holds.text)) counted.judged
+      let same : accepted.proofs ≡ proofs = same_proofs proofs holds.bytes holds.held.0 holds.text in
+      judged_yes p proofs.lemmas proofs.blocks answer (subst (λ (q : Proofs). LemmasFit (language_of p) q.lemmas) same (accepted.fits p reads)) (verified_by proofs same) counted.judged
 
   program_yes : (answer : Result Verdict Refusal) → IsProgramAnswer m cert_name p answer → IsYesOrFault answer
   program_yes answer (inl many) =

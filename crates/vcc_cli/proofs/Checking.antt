@@ -45,8 +45,8 @@ module _ (m : Map) (name : List ℕ) (p : Program) (few : length (conditions p) 
       ))
 
   -- the blocks are judged
-  pub judged_answer : (proofs : Proofs) (blocks : List Derivation) (answer : Result Verdict Refusal) → HoldsCertificate m name proofs → blocks ≡ proofs.blocks → length blocks ≡ length (conditions p) → AreJudged p blocks answer → IsProgramAnswer m name p answer
-  judged_answer proofs blocks answer holds same count judged =
+  pub judged_answer : (proofs : Proofs) (lemmas blocks : List Derivation) (answer : Result Verdict Refusal) → HoldsCertificate m name proofs → lemmas ≡ proofs.lemmas → blocks ≡ proofs.blocks → length blocks ≡ length (conditions p) → AreJudged p lemmas blocks answer → IsProgramAnswer m name p answer
+  judged_answer proofs lemmas blocks answer holds lemmas_are same count judged =
       inr (inl (
         few,
         inr (
@@ -54,7 +54,7 @@ module _ (m : Map) (name : List ℕ) (p : Program) (few : length (conditions p) 
           holds,
           inr (record {
             agree = ap length (sym same) ∙ count;
-            judged = subst (λ (bs : List Derivation). AreJudged p bs answer) same judged;
+            judged = subst (λ (ds : List Derivation). AreJudged p ds proofs.blocks answer) lemmas_are (subst (λ (bs : List Derivation). AreJudged p lemmas bs answer) same judged);
           }),
         ),
       ))

@@ -29,9 +29,9 @@ one_per_held p ls is = sym (length-map ls label_of) ∙ (ap length is ∙ sym (o
 pub few_held : (p : Program) (ls : List held.ProgramLabel) (most : ℕ) → labels_of ls ≡ program_labels p → length ls ≤ most → length (conditions p) ≤ most
 few_held p ls most is few = subst (λ (n : ℕ). n ≤ most) (one_per_held p ls is) few
 
--- where all follow by their blocks, there are as many blocks
-pub one_block_each : (l : Language) (cs : List Condition) (bs : List Derivation) → AllFollow l cs bs → length bs ≡ length cs
-one_block_each l [] [] all = refl
-one_block_each l [] (b ∷ bs) all = absurd all
-one_block_each l (c ∷ cs) [] all = absurd all
-one_block_each l (c ∷ cs) (b ∷ bs) all = ap suc (one_block_each l cs bs all.1)
+-- where all follow by their blocks and the lemmas, there are as many blocks
+pub one_block_each : (l : Language) (lemmas : List Derivation) (cs : List Condition) (bs : List Derivation) → AllFollow l lemmas cs bs → length bs ≡ length cs
+one_block_each l lemmas [] [] all = refl
+one_block_each l lemmas [] (b ∷ bs) all = absurd all
+one_block_each l lemmas (c ∷ cs) [] all = absurd all
+one_block_each l lemmas (c ∷ cs) (b ∷ bs) all = ap suc (one_block_each l lemmas cs bs all.1)

@@ -64,13 +64,13 @@ record IsShown (p : Program) : Type 0 where
   cert : List ℕ
   proofs : Proofs
   text : IsCertText cert proofs
-  verified : IsVerified p proofs.blocks
+  verified : IsVerified p proofs.lemmas proofs.blocks
 
 module _ (m : Map) (name : List ℕ) (p : Program) where
   shown_certificate : IsCertificateAnswer m name p (Ok Yes) → IsShown p
   shown_certificate (inl refused) = absurd (no_refusal (Ok Yes) refused.refusal refl refused.is)
   shown_certificate (inr (proofs, held, inl miscounted)) = absurd (no_refusal (Ok Yes) _ refl miscounted.is)
-  shown_certificate (inr (proofs, held, inr counted)) = record { cert = held.bytes; proofs = proofs; text = held.text; verified = yes_is_verified p proofs.blocks counted.judged }
+  shown_certificate (inr (proofs, held, inr counted)) = record { cert = held.bytes; proofs = proofs; text = held.text; verified = yes_is_verified p proofs.lemmas proofs.blocks counted.judged }
 
   shown_program : IsProgramAnswer m name p (Ok Yes) → IsShown p
   shown_program (inl many) = absurd (no_refusal (Ok Yes) _ refl many.1)

@@ -10,21 +10,22 @@ use Rattle.method.specs.declared.program.Program.{Program}
 use Rattle.method.specs.Machine.{Safe}
 use Rattle.conditions.specs.Conditions.{conditions}
 use Rattle.cert_format.specs.Text.{IsCertText, Proofs}
-use Rattle.vcc_judge.specs.Verdicts.{IsVerified}
+use Rattle.condition_meaning.specs.Languages.{language_of}
+use Rattle.vcc_judge.specs.Verdicts.{IsVerified, LemmasFit}
 use Rattle.vcc_base.specs.Maps.{Map}
 use Rattle.vcc_base.specs.Limits.{number_of}
 use Rattle.vcc_base.specs.declared.limit.Limit.TheVariants.{SourceBytes, CertBytes, Conditions}
 use Rattle.vcc_words.specs.Words.{IsCheck}
 
--- The source reads as a program, the certificate is well formed, and each condition of the program follows by its block.
+-- The source reads as a program, the certificate is well formed, and each condition of the program follows by its block and the certificate's lemmas.
 pub record Accepts (source cert : List ℕ) : Type 0 where
   pub program : Program
   pub proofs : Proofs
   pub reads : IsProgramOf source program
   pub text : IsCertText cert proofs
-  pub verified : IsVerified program proofs.blocks
+  pub verified : IsVerified program proofs.lemmas proofs.blocks
 
--- The source reads as a program, the certificate is well formed, both are within the limits, and each condition follows by its block: of every program that the source reads as, since two may differ in the room that their vectors hold.
+-- The source reads as a program, the certificate is well formed, both are within the limits, no number that a lemma works out leaves 128 bits, and each condition follows by its block and the lemmas: of every program that the source reads as, since two may differ in the room that their vectors hold.
 pub record IsAcceptable (source cert : List ℕ) : Type 0 where
   pub items : List Item
   pub end : Span
@@ -36,7 +37,8 @@ pub record IsAcceptable (source cert : List ℕ) : Type 0 where
   pub cert_text : IsCertText cert proofs
   pub cert_short : length cert ≤ number_of CertBytes
   pub few : (p : Program) → IsProgramOf source p → length (conditions p) ≤ number_of Conditions
-  pub verified : (p : Program) → IsProgramOf source p → IsVerified p proofs.blocks
+  pub fits : (p : Program) → IsProgramOf source p → LemmasFit (language_of p) proofs.lemmas
+  pub verified : (p : Program) → IsProgramOf source p → IsVerified p proofs.lemmas proofs.blocks
 
 -- the words are a check, whose two names hold these bytes
 pub record IsCheckOf (m : Map) (words : List (List ℕ)) (source cert : List ℕ) : Type 0 where

@@ -61,26 +61,26 @@ pub record HoldsCertificate (m : Map) (name : List ℕ) (proofs : Proofs) : Type
 abbrev pub IsCertificateStop : Map → List ℕ → Refusal → Type 0
 IsCertificateStop m name refusal = IsUnread m name CertBytes refusal ⊎ ((bytes : List ℕ) × HoldsWithin m name CertBytes bytes × IsNoCertificate bytes refusal)
 
--- ---- its blocks
+-- ---- its lemmas and blocks
 
--- what blocks give for a program's conditions, one for each
-abbrev pub AreJudged : Program → List Derivation → Result Verdict Refusal → Type 0
-AreJudged p blocks (Ok Yes) = IsJudged p blocks (Ok v.Yes)
-AreJudged p blocks (Ok (No failing)) = (failing.name.now ≡ item_name p failing.label.item) × IsJudged p blocks (Ok (v.No failing.label))
-AreJudged p blocks (Err (Wide w)) = IsJudged p blocks (Err (j.Wide w))
-AreJudged p blocks (Err (Limit Terms)) = IsJudged p blocks (Err j.Terms)
-AreJudged p blocks (Err OutOfMemory) = Unit {0}
-AreJudged p blocks (Err _) = ⊥
+-- what lemmas and blocks give for a program's conditions, one block for each
+abbrev pub AreJudged : Program → List Derivation → List Derivation → Result Verdict Refusal → Type 0
+AreJudged p lemmas blocks (Ok Yes) = IsJudged p lemmas blocks (Ok v.Yes)
+AreJudged p lemmas blocks (Ok (No failing)) = (failing.name.now ≡ item_name p failing.label.item) × IsJudged p lemmas blocks (Ok (v.No failing.label))
+AreJudged p lemmas blocks (Err (Wide w)) = IsJudged p lemmas blocks (Err (j.Wide w))
+AreJudged p lemmas blocks (Err (Limit Terms)) = IsJudged p lemmas blocks (Err j.Terms)
+AreJudged p lemmas blocks (Err OutOfMemory) = Unit {0}
+AreJudged p lemmas blocks (Err _) = ⊥
 
 -- a certificate has another number of blocks than the program has conditions
 pub record IsMiscounted (p : Program) (proofs : Proofs) (answer : Result Verdict Refusal) : Type 0 where
   pub differ : length proofs.blocks ≢ length (conditions p)
   pub is : answer ≡ Err (Count (record { blocks = length proofs.blocks; conditions = length (conditions p) }))
 
--- it has as many, and they are judged
+-- it has as many, and they are judged, behind the lemmas
 pub record IsCounted (p : Program) (proofs : Proofs) (answer : Result Verdict Refusal) : Type 0 where
   pub agree : length proofs.blocks ≡ length (conditions p)
-  pub judged : AreJudged p proofs.blocks answer
+  pub judged : AreJudged p proofs.lemmas proofs.blocks answer
 
 -- ---- in the order of refusals
 
@@ -99,6 +99,6 @@ abbrev pub IsProgramAnswer : Map → List ℕ → Program → Result Verdict Ref
 IsProgramAnswer m name p answer =
     ((number_of Conditions < length (conditions p)) × (answer ≡ Err (Limit Conditions))) ⊎ ((length (conditions p) ≤ number_of Conditions) × IsCertificateAnswer m name p answer) ⊎ (answer ≡ Err OutOfMemory)
 
--- The answer of a check of these two names: the source is read and typed, its conditions are counted, the certificate is read and its blocks counted, and then they are judged in order; the first that refuses decides.
+-- The answer of a check of these two names: the source is read and typed, its conditions are counted, the certificate is read and its blocks counted, and then its lemmas and its blocks are judged in order; the first that refuses decides.
 abbrev pub IsCheckAnswer : Map → List ℕ → List ℕ → Result Verdict Refusal → Type 0
 IsCheckAnswer m source_name cert_name answer = Refuses (IsSourceStop m source_name) answer ⊎ ((p : Program) × HoldsProgram m source_name p × IsProgramAnswer m cert_name p answer)

@@ -32,20 +32,21 @@ use vcc_base::store::Store;
 use vcc_judge::judge::judge;
 use vcc_judge::verdict::{JudgeFault, Verdict as Judgment};
 
-/// What the blocks show of the program, whose labels these are, one block for each.
+/// What the lemmas and blocks show of the program, whose labels these are, one block for each.
 fn judge_blocks<'a, 'p>(
     alloc: Global,
     program: &'p Program,
     labels: &[ProgramLabel],
+    lemmas: &[Refutation],
     blocks: &[Refutation],
 ) -> Result<Verdict<'p>, Refusal<'a>>
     requires labels { labels_of labels.now ≡ spec.program_labels program.now }
     requires count { length labels.now ≡ length blocks.now }
-    ensures judged { AreJudged program.entry.now blocks.now result }
+    ensures judged { AreJudged program.entry.now lemmas.now blocks.now result }
     ensures valid { IsLayered (language_of program.entry.now) → IsFaithful (language_of program.entry.now) →
         result ≡ Ok Verdict.Yes → ConditionsAreValid program.entry.now }
 {
-    match judge(alloc, program, labels, blocks) {
+    match judge(alloc, program, labels, lemmas, blocks) {
         Ok(Judgment::Yes) => Ok(Verdict::Yes),
         Ok(Judgment::No(label)) => {
             let name = item_name(program, label.item);
@@ -85,7 +86,13 @@ pub fn judge_name<'a, 'p, S: Store>(
     if blocks != conditions {
         return Err(Refusal::Count(BlockCount { blocks, conditions }));
     }
-    judge_blocks(alloc, program, &labels, &certificate.blocks)
+    judge_blocks(
+        alloc,
+        program,
+        &labels,
+        &certificate.lemmas,
+        &certificate.blocks,
+    )
 }
 
 /// Checks the source with this name by the certificate with that name: prints the verdict, or why there is none, and gives

@@ -34,22 +34,23 @@ fn block_at(blocks: &[Refutation], i: usize) -> &Refutation
     &blocks[i]
 }
 
-/// The same by the program's theory. The k-th condition goes with the k-th label and block; there are as many
+/// The same by the program's theory. The lemmas are judged first. The k-th condition goes with the k-th label and block; there are as many
 /// conditions as labels, so none is left behind the last block, and none lacks.
 #[tactic(auto, using(crate::proofs::Deciding::refused_judged))]
 fn judge_by(
     alloc: Global,
     theory: Theory<'_>,
     labels: &[ProgramLabel],
+    lemmas: &[Refutation],
     blocks: &[Refutation],
 ) -> Result<Verdict, JudgeFault>
     requires theory { IsTheory theory (language_of theory.program.now) }
     requires labels { labels_of labels.now ≡ spec.program_labels theory.program.now }
     requires count { length labels.now ≡ length blocks.now }
-    ensures { IsJudged theory.entry.program.now blocks.now result }
+    ensures { IsJudged theory.entry.program.now lemmas.now blocks.now result }
 {
+    let mut room = Room::new(alloc, theory, lemmas)?;
     let mut conditions = Conditions::new(alloc);
-    let mut room = Room::new(alloc);
     for i in 0..blocks.len() {
         let given = conditions.give(theory.program)?;
         let Some(condition) = given else {
@@ -65,21 +66,22 @@ fn judge_by(
     Ok(Verdict::Yes)
 }
 
-/// What the blocks show of the program, whose labels these are: one block for each condition, in order. One condition is
-/// judged at a time.
+/// What a certificate's lemmas and blocks show of the program, whose labels these are: one block for each condition, in
+/// order. One condition is judged at a time.
 ///
 /// # Errors
-/// `Terms`, where a condition needs more than 1,048,576 terms; `Wide`, where a number leaves 128 bits; `OutOfMemory`, where
-/// memory is refused.
+/// `Terms`, where the lemmas or a condition need more than 1,048,576 terms; `Wide`, where a number leaves 128 bits;
+/// `OutOfMemory`, where memory is refused.
 pub fn judge(
     alloc: Global,
     program: &Program,
     labels: &[ProgramLabel],
+    lemmas: &[Refutation],
     blocks: &[Refutation],
 ) -> Result<Verdict, JudgeFault>
     requires labels { labels_of labels.now ≡ spec.program_labels program.now }
     requires count { length labels.now ≡ length blocks.now }
-    ensures judged { IsJudged program.now blocks.now result }
+    ensures judged { IsJudged program.now lemmas.now blocks.now result }
     ensures valid { IsLayered (language_of program.now) → IsFaithful (language_of program.now) →
         result ≡ Ok Verdict.Yes → ConditionsAreValid program.now }
 {
@@ -88,5 +90,5 @@ pub fn judge(
         program,
         language: &language,
     };
-    judge_by(alloc, theory, labels, blocks)
+    judge_by(alloc, theory, labels, lemmas, blocks)
 }

@@ -145,7 +145,7 @@ module _ (p : Program) (labels : List ProgramLabel) (are : labels_of labels ≡ 
     all_lines fault old new h =
         (length (item_lines p p.items.items gs), is_written old new _ _ (ap text_of_lines (sym (take-length (item_lines p p.items.items gs)))) h)
 
-    truth : (all : Bool) → all ≡ each_has_blocks gs → IsTrue all ↔ IsVerified p (blocks_of gs)
+    truth : (all : Bool) → all ≡ each_has_blocks gs → IsTrue all ↔ IsVerified p [] (blocks_of gs)
     truth all is = ((λ yes. blocks_verify p gs find (sym is ∙ yes)), (λ verified. is ∙ verify_blocks p gs find verified))
 
   -- ---- a run

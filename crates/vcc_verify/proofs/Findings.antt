@@ -102,13 +102,13 @@ module _ (l : Language) where
   blocks_fit (f ∷ fs) (o ∷ os) h = All-cons (IsDerivation (OfCondition 1)) (block_of o) (map block_of os) (block_fits f o h.0) (blocks_fit fs os h.1)
 
   -- no condition follows by an empty block
-  empty_never : (f : Formula) → Follows l f empty_block → ⊥
+  empty_never : (f : Formula) → Follows l [] f empty_block → ⊥
   empty_never f follows =
       let none : length follows.refutes.laid.clauses ≡ 0 = ap length follows.refutes.front.layout.clauses in
-      let some : length follows.refutes.laid.clauses ≡ follows.refutes.empty.0 + 1 = follows.refutes.empty.1 in
+      let some : length follows.refutes.laid.clauses ≡ follows.refutes.last.0 + 1 = follows.refutes.last.2 in
       omega (arith, none, some)
 
-  pub blocks_follow : (ls : List ProgramLabel) (fs : List Formula) (os : List Finding) → length ls ≡ length fs → AllFind l fs os → all_have_blocks os ≡ true → AllFollow l (label_formulas ls fs) (map block_of os)
+  pub blocks_follow : (ls : List ProgramLabel) (fs : List Formula) (os : List Finding) → length ls ≡ length fs → AllFind l fs os → all_have_blocks os ≡ true → AllFollow l [] (label_formulas ls fs) (map block_of os)
   blocks_follow [] [] [] long h all = tt
   blocks_follow [] [] (o ∷ os) long h all = absurd h
   blocks_follow [] (f ∷ fs) os long h all = absurd (omega (arith, long))
@@ -117,7 +117,7 @@ module _ (l : Language) where
   blocks_follow (x ∷ ls) (f ∷ fs) (None ∷ os) long h all = absurd (cc all)
   blocks_follow (x ∷ ls) (f ∷ fs) (Some b ∷ os) long h all = (h.0.0, blocks_follow ls fs os (omega (arith, long)) h.1 all)
 
-  pub follow_blocks : (ls : List ProgramLabel) (fs : List Formula) (os : List Finding) → length ls ≡ length fs → AllFind l fs os → AllFollow l (label_formulas ls fs) (map block_of os) → all_have_blocks os ≡ true
+  pub follow_blocks : (ls : List ProgramLabel) (fs : List Formula) (os : List Finding) → length ls ≡ length fs → AllFind l fs os → AllFollow l [] (label_formulas ls fs) (map block_of os) → all_have_blocks os ≡ true
   follow_blocks [] [] [] long h all = refl
   follow_blocks [] [] (o ∷ os) long h all = absurd h
   follow_blocks [] (f ∷ fs) os long h all = absurd (omega (arith, long))
@@ -163,12 +163,12 @@ module _ (p : Program) (gs : List (List Finding)) (find : ItemsFind p p.items.it
   all_fit = subst (λ (bs : List Derivation). All (IsDerivation (OfCondition 1)) bs) (sym (blocks_together gs)) (blocks_fit (language_of p) (formulas p) (together gs) all_find)
 
   -- a block was found for each condition exactly where each follows by its block
-  pub blocks_verify : each_has_blocks gs ≡ true → IsVerified p (blocks_of gs)
+  pub blocks_verify : each_has_blocks gs ≡ true → IsVerified p [] (blocks_of gs)
   blocks_verify all =
-      subst (λ (bs : List Derivation). IsVerified p bs) (sym (blocks_together gs))
+      subst (λ (bs : List Derivation). IsVerified p [] bs) (sym (blocks_together gs))
       (blocks_follow (language_of p) (program_labels p) (formulas p) (together gs) long all_find (sym (together_have gs) ∙ all))
 
-  pub verify_blocks : IsVerified p (blocks_of gs) → each_has_blocks gs ≡ true
+  pub verify_blocks : IsVerified p [] (blocks_of gs) → each_has_blocks gs ≡ true
   verify_blocks all =
       together_have gs ∙ follow_blocks (language_of p) (program_labels p) (formulas p) (together gs) long all_find
-      (subst (λ (bs : List Derivation). IsVerified p bs) (blocks_together gs) all)
+      (subst (λ (bs : List Derivation). IsVerified p [] bs) (blocks_together gs) all)

@@ -1,5 +1,5 @@
 -- What a run that answers yes says of the conditions.
-use Rattle.std.proofs.Common.{◌≡◌, ℕ, List, [], ◌∷◌, Bool, true, Option, Result, Ok, Err, inl, refl}
+use Rattle.std.proofs.Common.{◌≡◌, ℕ, List, [], ◌∷◌, Bool, true, Option, Result, Ok, Err, inl, inr, refl}
 use Rattle.method.specs.declared.program.Program.{Program}
 use Rattle.term_meaning.specs.Meaning.{Language, IsFaithful}
 use Rattle.term_meaning.specs.Filling.{IsLayered}
@@ -16,15 +16,15 @@ use Rattle.vcc_verify.specs.Texts.{blocks_of}
 use Rattle.vcc_verify.specs.Outcomes.{Verifies}
 
 -- blocks by which all conditions follow are judged with yes
-all_decide : (l : Language) (cs : List Condition) (bs : List Derivation) → AllFollow l cs bs → Decides l cs bs (Ok Yes)
+all_decide : (l : Language) (cs : List Condition) (bs : List Derivation) → AllFollow l [] cs bs → Decides l [] cs bs (Ok Yes)
 all_decide l [] [] h = refl
 all_decide l [] (b ∷ bs) h = absurd h
 all_decide l (c ∷ cs) [] h = absurd h
 all_decide l (c ∷ cs) (b ∷ bs) h = inl (h.0, all_decide l cs bs h.1)
 
-verified_valid : (p : Program) (blocks : List Derivation) → IsLayered (language_of p) → IsFaithful (language_of p) → IsVerified p blocks → ConditionsAreValid p
+verified_valid : (p : Program) (blocks : List Derivation) → IsLayered (language_of p) → IsFaithful (language_of p) → IsVerified p [] blocks → ConditionsAreValid p
 verified_valid p blocks layered faithful all =
-    valid_of p blocks (Ok Yes) (inl (all_decide (language_of p) (conditions p) blocks all)) layered faithful refl
+    valid_of p [] blocks (Ok Yes) (inr (inl (all_decide (language_of p) (conditions p) blocks all))) layered faithful refl
 
 pub answer_valid : (p : Program) (name : List ℕ) (before now : Option Map) (old new : Option (List ℕ)) (result : Result Bool VerifyFault) → Verifies p name before now old new result
     → IsLayered (language_of p) → IsFaithful (language_of p) → result ≡ Ok true → ConditionsAreValid p

@@ -57,7 +57,7 @@ Prints (Err f.OutOfMemory) old new p gs = SomeLines old new (item_lines p p.item
 
 -- yes is answered exactly where a block was found for each condition, which is where each follows by its block
 abbrev pub AnswersBy : Result Bool VerifyFault → Program → List (List Finding) → Type 0
-AnswersBy (Ok all) p gs = (all ≡ each_has_blocks gs) × (IsTrue all ↔ IsVerified p (blocks_of gs))
+AnswersBy (Ok all) p gs = (all ≡ each_has_blocks gs) × (IsTrue all ↔ IsVerified p [] (blocks_of gs))
 AnswersBy (Err fault) p gs = Unit {0}
 
 -- There are findings, one for each condition of the program, by which the text is a certificate; its text is what the name holds, the report on them is what was printed, and the answer says whether all were found.

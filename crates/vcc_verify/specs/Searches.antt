@@ -15,10 +15,10 @@ use Rattle.refutation_check.specs.Follows.{Follows}
 abbrev pub Finding : Type 0
 Finding = Option Derivation
 
--- the condition follows by the block, which can stand in a certificate of version 1
+-- the condition follows by the block, without lemmas; it can stand in a certificate of version 1
 abbrev pub Finds : Language → Formula → Finding → Type 0
 Finds l f None = Unit {0}
-Finds l f (Some block) = Follows l f block × IsDerivation (OfCondition 1) block
+Finds l f (Some block) = Follows l [] f block × IsDerivation (OfCondition 1) block
 
 -- a finding for each condition, in order
 abbrev pub AllFind : Language → List Formula → List Finding → Type 0

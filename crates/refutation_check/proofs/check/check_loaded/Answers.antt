@@ -1,5 +1,5 @@
 use Rattle.std.proofs.Common.{◌≡◌, true, sym, ◌∙◌}
-use Rattle.refutation_check.specs.Judging.{has_steps}
+use Rattle.block_layout.specs.Loading.{has_steps}
 use Rattle.refutation_check.proofs.Verdicts.{within}
 use Rattle.refutation_check.proofs.check.check_loaded.Goals as goal
 

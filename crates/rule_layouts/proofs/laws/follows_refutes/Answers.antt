@@ -1,4 +1,4 @@
-use Rattle.rule_layouts.proofs.Once.{follows_refutes}
+use Rattle.rule_layouts.proofs.OneList.{follows_refutes}
 use Rattle.rule_layouts.proofs.laws.follows_refutes.Goals as goal
 
 pub returns : goal.returns

@@ -19,6 +19,6 @@ pub returns-clause-answer : goal.returns-clause-answer
 returns-clause-answer g c = λ m given.
     let certificate = c.in-Ok-read_certificate.certificate in
     let each = one_per_held c.args.program.now c.in-Ok.labels.items c.in-Ok.ensures.labels in
-    let found = ap length c.deref-2.ensures.value in
+    let found = ap length c.deref-3.ensures.value in
     judged_answer m c.args.name.now c.args.program.now (few_held c.args.program.now c.in-Ok.labels.items _ c.in-Ok.ensures.labels c.in-Ok.ensures.few) (seen certificate)
-    c.deref-2.result.now c.judge_blocks.result (c.in-Ok-read_certificate.ensures.answer m given) c.deref-2.ensures.value (omega (arith, each, found)) c.judge_blocks.ensures.judged
+    c.deref-2.result.now c.deref-3.result.now c.judge_blocks.result (c.in-Ok-read_certificate.ensures.answer m given) c.deref-2.ensures.value c.deref-3.ensures.value (omega (arith, each, found)) c.judge_blocks.ensures.judged
