@@ -1,18 +1,88 @@
 //! Certificates, as they are, cut short and with one line changed: which condition doesn't follow then, or what is wrong with the
 //! text, was worked out by hand.
 
-use crate::commands::prints;
+use crate::commands::{NO_CONDITIONS, prints};
+use crate::sources::repeated;
 use std::alloc::{AllocError, Global};
 use std::fmt::Write;
 use std::process::Abort;
 use test_sources::{ATOMIC, ATOMIC_CERT};
 
-const BELOW: &str = "void main(int x) _(requires x < 5) { _(assert x < 6) }";
+pub const BELOW: &str = "void main(int x) _(requires x < 5) { _(assert x < 6) }";
 
 const BELOW_STEPS: &str = "vcc-cert 1\nconditions 1\ncondition 0 10 17\ns root = -16\n\
 s conn 1 16 = +16 +12\ns conn 2 16 = +16 -15\ns conn 1 15 = +15 +14\ns conn 2 12 = -12 +11\n\
 s conn 2 11 = -11 +10\ns conn 2 10 = -10 +9\ns conn 2 9 = -9 -8\ns linear 1 1 = +8 -14\n\
 s chain 0 1 2 3 4 5 6 7 8 =\nend\n";
+
+/// The same argument, whose step on bounds is a lemma.
+const BELOW_LEMMA: &str =
+    "vcc-cert 2\nlemmas 1\nlemma 5 1 2\nt int 5\nt ci 0\nt le 0 1\nt int 6\nt le 3 1\n\
+s linear 1 1 = +2 -4\nconditions 1\ncondition 0 10 17\ns root = -16\n\
+s conn 1 16 = +16 +12\ns conn 2 16 = +16 -15\ns conn 1 15 = +15 +14\ns conn 2 12 = -12 +11\n\
+s conn 2 11 = -11 +10\ns conn 2 10 = -10 +9\ns conn 2 9 = -9 -8\ns lemma 0 = +8 -14\n\
+s chain 0 1 2 3 4 5 6 7 8 =\nend\n";
+
+/// Changes of that certificate.
+const OF_LEMMA: &[Change] = &[
+    // the lemma doesn't follow: by its step, by a term without a sort, by an argument that isn't below it
+    (9, "s linear 1 0 = +2 -4", "no: main/1 Assert line 1\n", 1),
+    (9, "s chain 0 = +2 -4", "no: main/1 Assert line 1\n", 1),
+    (5, "t ci -1", "no: main/1 Assert line 1\n", 1),
+    (6, "t le 0 2", "no: main/1 Assert line 1\n", 1),
+    // it gives another clause; a clause that names no term of its own
+    (9, "s linear 1 1 = -4 +2", "no: main/1 Assert line 1\n", 1),
+    (9, "s linear 1 1 = +2 -5", "no: main/1 Assert line 1\n", 1),
+    // the block's step names no lemma, or two numbers, or another clause
+    (20, "s lemma 1 = +8 -14", "no: main/1 Assert line 1\n", 1),
+    (20, "s lemma -1 = +8 -14", "no: main/1 Assert line 1\n", 1),
+    (20, "s lemma 0 0 = +8 -14", "no: main/1 Assert line 1\n", 1),
+    (20, "s lemma = +8 -14", "no: main/1 Assert line 1\n", 1),
+    (20, "s lemma 0 = -14 +8", "no: main/1 Assert line 1\n", 1),
+    // a number leaves 128 bits in the lemma
+    (
+        9,
+        "s linear 170141183460469231731687303715884105727 170141183460469231731687303715884105727 = +2 -4",
+        "limit: Wide 170141183460469231731687303715884105727 -4\n",
+        5,
+    ),
+    // the lemma isn't used
+    (20, "s linear 1 1 = +8 -14", "yes\n", 0),
+    // a lemma cites no later one, and is no condition
+    (9, "s lemma 0 = +2 -4", "certificate line 9: BadLine\n", 4),
+    (9, "s root = +2 -4", "certificate line 9: BadLine\n", 4),
+];
+
+/// A lemma that rests on another, and one behind a bad term.
+const LEMMAS: &[(&str, &str, &str, u8)] = &[
+    (
+        "void main() {}",
+        "vcc-cert 2\nlemmas 0\nconditions 0\nend\n",
+        "yes\n",
+        0,
+    ),
+    (BELOW, BELOW_LEMMA, "yes\n", 0),
+    (
+        "void main() {}",
+        "vcc-cert 2\nlemmas 2\nlemma 1 1 0\nt ci 0\ns chain 0 =\nlemma 0 1 0\ns lemma 0 =\nconditions 0\nend\n",
+        "yes\n",
+        0,
+    ),
+    (
+        "void main() {}",
+        "vcc-cert 2\nlemmas 1\nlemma 3 1 1\nt int 170141183460469231731687303715884105727\nt ci 0\nt le 0 1\n\
+s linear 2 = +2\nconditions 0\nend\n",
+        "limit: Wide 2 -170141183460469231731687303715884105726\n",
+        5,
+    ),
+];
+
+const FIVE_TWICE: &str = "void main(int x) _(requires x == 5) { _(assert x == 5 && x == 5) }";
+
+const POINT: &str = "struct P { int a; int b; _(invariant a <= b) };\n\
+void set(struct P *p) _(writes p) _(requires \\wrapped(p)) _(ensures \\wrapped(p)) \
+{ _(unwrap p) p->a = 1; p->b = 2; _(wrap p) }\n\
+void main() {}";
 
 /// The number of a line, what it is changed to, and what a check prints then, with its status.
 type Change = (usize, &'static str, &'static str, u8);
@@ -43,12 +113,30 @@ const OF_BELOW: &[Change] = &[
         "limit: Wide 170141183460469231731687303715884105727 -4\n",
         5,
     ),
+    // the chain leaves out the last step, and a line stands behind the end
+    (
+        13,
+        "s chain 0 1 2 3 4 5 6 7 =",
+        "no: main/1 Assert line 1\n",
+        1,
+    ),
+    (14, "end\nx", "certificate line 15: Trailing\n", 4),
 ];
 
 /// Whole certificates, with what a check of a source with them prints.
 const WHOLE: &[(&str, &str, &str, u8)] = &[
     (BELOW, BELOW_STEPS, "yes\n", 0),
     (ATOMIC, ATOMIC_CERT, "yes\n", 0),
+    // the chain stands before the last step that it names
+    (
+        BELOW,
+        "vcc-cert 1\nconditions 1\ncondition 0 10 17\ns root = -16\n\
+s conn 1 16 = +16 +12\ns conn 2 16 = +16 -15\ns conn 1 15 = +15 +14\ns conn 2 12 = -12 +11\n\
+s conn 2 11 = -11 +10\ns conn 2 10 = -10 +9\ns conn 2 9 = -9 -8\ns chain 0 1 2 3 4 5 6 7 8 =\n\
+s linear 1 1 = +8 -14\nend\n",
+        "no: main/1 Assert line 1\n",
+        1,
+    ),
     (
         BELOW,
         "vcc-cert 1\nconditions 1\ncondition 1 0 0\nt add 17 2\nend\n",
@@ -62,6 +150,57 @@ const WHOLE: &[(&str, &str, &str, u8)] = &[
         1,
     ),
     ("void main() {}", "", "certificate line 1: CutShort\n", 4),
+    (
+        BELOW,
+        "vcc-cert 1\nconditions 1\ncondition 0 0 0\nend\n",
+        "no: main/1 Assert line 1\n",
+        1,
+    ),
+    // a chain counts places: the second literal of step 4 isn't false until step 1 is taken
+    (
+        FIVE_TWICE,
+        "vcc-cert 1\nconditions 1\ncondition 0 8 14\ns root = -13\ns conn 2 9 = -9 +8\ns conn 2 10 = -10 +9\n\
+s conn 2 11 = -11 +10\ns conn 3 12 = +12 -8 -8\ns conn 1 13 = +13 +11\ns conn 2 13 = +13 -12\n\
+s chain 0 6 4 5 3 2 1 =\nend\n",
+        "no: main/1 Assert line 1\n",
+        1,
+    ),
+    (
+        FIVE_TWICE,
+        "vcc-cert 1\nconditions 1\ncondition 0 8 14\ns root = -13\ns conn 2 9 = -9 +8\ns conn 2 10 = -10 +9\n\
+s conn 2 11 = -11 +10\ns conn 3 12 = +12 -8 -8\ns conn 1 13 = +13 +11\ns conn 2 13 = +13 -12\n\
+s chain 0 6 5 3 2 1 4 =\nend\n",
+        "yes\n",
+        0,
+    ),
+    // an object that is unwrapped, written and wrapped, of 14 conditions
+    (
+        POINT,
+        "vcc-cert 1\nconditions 14\ncondition 0 0 0\ncondition 0 0 0\ncondition 0 0 0\ncondition 0 0 0\n\
+condition 0 0 0\ncondition 0 0 0\ncondition 0 0 0\ncondition 0 0 0\ncondition 0 0 0\ncondition 0 0 0\n\
+condition 0 0 0\ncondition 0 0 0\ncondition 0 0 0\ncondition 0 0 0\nend\n",
+        "no: P/1 Reflexive line 1\n",
+        1,
+    ),
+    (
+        POINT,
+        NO_CONDITIONS,
+        "certificate: conditions 0, source has 14\n",
+        4,
+    ),
+    (
+        ATOMIC,
+        "vcc-cert 1\nconditions 6\ncondition 0 0 0\ncondition 0 0 0\ncondition 0 0 0\ncondition 0 0 0\n\
+condition 0 0 0\ncondition 0 0 0\nend\n",
+        "no: Ctr/1 Reflexive line 1\n",
+        1,
+    ),
+    (
+        ATOMIC,
+        NO_CONDITIONS,
+        "certificate: conditions 0, source has 6\n",
+        4,
+    ),
 ];
 
 /// Changes of the certificate for six conditions of atomic blocks.
@@ -139,6 +278,22 @@ fn change(rt: &impl Abort, alloc: Global, source: &str, cert: &str, changes: &[C
 fn one_line_changed(rt: HostRuntime) {
     change(&rt, rt.alloc(), BELOW, BELOW_STEPS, OF_BELOW);
     change(&rt, rt.alloc(), ATOMIC, ATOMIC_CERT, OF_ATOMIC);
+    change(&rt, rt.alloc(), BELOW, BELOW_LEMMA, OF_LEMMA);
+}
+
+#[test]
+fn lemmas(rt: HostRuntime) {
+    for (source, cert, line, status) in LEMMAS {
+        prints(&rt, rt.alloc(), source, cert, line, *status);
+    }
+}
+
+/// The deepest brackets are read, and make no condition.
+#[test]
+fn deepest_brackets(rt: HostRuntime) {
+    let pieces = ("void main(int x) { x = ", "(", "0", ")", "; }");
+    let source = repeated(rt.alloc(), &pieces, 196).expect(&rt, "memory for brackets");
+    prints(&rt, rt.alloc(), source.as_str(), NO_CONDITIONS, "yes\n", 0);
 }
 
 /// The line of a certificate that ends in this line.

@@ -10,7 +10,7 @@ use vcc_cli::vcc_main;
 
 pub const EMPTY: &str = "void main() {}";
 
-const NO_CONDITIONS: &str = "vcc-cert 1\nconditions 0\nend\n";
+pub const NO_CONDITIONS: &str = "vcc-cert 1\nconditions 0\nend\n";
 
 const FIVE: &str = "void main(int x) _(requires x == 5) { _(assert x == 5) }";
 
@@ -50,6 +50,30 @@ const ROWS: &[(&str, &str, &str, u8)] = &[
         "vcc-cert 1\nconditions 0\nen",
         "certificate line 3: CutShort\n",
         4,
+    ),
+    (
+        EMPTY,
+        "vcc-cert 1\nconditions 0\nend\nx\n",
+        "certificate line 4: Trailing\n",
+        4,
+    ),
+    (
+        EMPTY,
+        "vcc-cert 1\nconditions 007\nend\n",
+        "certificate line 2: BadNumber\n",
+        4,
+    ),
+    (
+        EMPTY,
+        "vcc-cert 1\nconditions 1\ncondition 0 0 0\nend\n",
+        "certificate: conditions 1, source has 0\n",
+        4,
+    ),
+    (
+        EMPTY,
+        "vcc-cert 2\nlemmas 0\nconditions 0\nend\n",
+        "yes\n",
+        0,
     ),
     (
         FIVE,

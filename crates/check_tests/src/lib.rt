@@ -8,11 +8,19 @@ mod certificates;
 #[cfg(test)]
 mod commands;
 #[cfg(test)]
+mod condition_lists;
+#[cfg(test)]
+mod formulas;
+#[cfg(test)]
+mod labels;
+#[cfg(test)]
 mod rows;
 #[cfg(test)]
 mod searches;
 #[cfg(test)]
 mod sources;
+#[cfg(test)]
+mod steps;
 #[cfg(test)]
 mod translation;
 #[cfg(test)]

@@ -154,6 +154,76 @@ fn search_rows(rt: HostRuntime) {
     }
 }
 
+/// Sources with owner approval, likewise.
+const APPROVALS: &[(&str, &str, &str)] = &[
+    // A field that its owner approves is changed where the owner is listed.
+    (
+        "struct F { volatile int a; _(invariant \\approves(\\this->\\owner, a)) };\n\
+struct G { _(ghost volatile int s) struct F *p; _(invariant \\mine(p)) _(invariant p->a == s) };\n\
+void f(struct G *g) _(requires \\wrapped(g)) { _(atomic g, g->p) { g->p->a = 1; _(ghost g->s = 1;) } }\n\
+void main() {}",
+        "type F: verified\ntype G: verified\nfunction f: verified\n\
+function main: verified\nall verified\n",
+        "yes\n",
+    ),
+    (
+        "struct F { volatile int a; _(invariant \\approves(\\this->\\owner, a)) };\n\
+struct G { _(ghost volatile int s) struct F *p; _(invariant \\mine(p)) _(invariant p->a == s) };\n\
+void f(struct G *g) _(requires \\wrapped(g)) { _(atomic g->p) { g->p->a = 1; } }\n\
+void main() {}",
+        "type F: verified\ntype G: verified\nfunction f: not proved, first f/4 Write line 3\n\
+function main: verified\nnot all verified\n",
+        "no: f/4 Write line 3\n",
+    ),
+    (
+        "struct F { volatile int a; };\n\
+struct G { _(ghost volatile int s) struct F *p; _(invariant \\mine(p)) _(invariant p->a == s) };\n\
+void main() {}",
+        "type F: verified\ntype G: not proved, first G/2 Stable line 2\n\
+function main: verified\nnot all verified\n",
+        "no: G/2 Stable line 2\n",
+    ),
+    // Others don't change what the owner approves.
+    (
+        "struct F { volatile int a; _(invariant \\approves(\\this->\\owner, a)) };\n\
+void h(struct F *p) _(requires \\wrapped(p)) { int v = 0; _(atomic p) { v = p->a; } _(assert p->a == v) }\n\
+void main() {}",
+        "type F: verified\nfunction h: verified\nfunction main: verified\nall verified\n",
+        "yes\n",
+    ),
+    (
+        "struct F { volatile int a; };\n\
+void h(struct F *p) _(requires \\wrapped(p)) { int v = 0; _(atomic p) { v = p->a; } _(assert p->a == v) }\n\
+void main() {}",
+        "type F: verified\nfunction h: not proved, first h/4 Assert line 2\n\
+function main: verified\nnot all verified\n",
+        "no: h/4 Assert line 2\n",
+    ),
+    (
+        "struct F { volatile int a; _(invariant \\approves(\\this->\\owner, a)) };\n\
+struct G { _(ghost volatile int s) struct F *p; _(invariant \\mine(p)) _(invariant p->a == s) };\n\
+void main() {\n\
+struct F *p = malloc(sizeof(struct F));\n\
+struct G *g = malloc(sizeof(struct G));\n\
+if (p != NULL && g != NULL) {\n\
+p->a = 0;\n\
+_(wrap p)\n\
+g->p = p;\n\
+_(ghost g->s = 0;)\n\
+_(wrap g)\n\
+_(atomic g, p) { p->a = 1; _(ghost g->s = 1;) } } }",
+        "type F: verified\ntype G: verified\nfunction main: verified\nall verified\n",
+        "yes\n",
+    ),
+];
+
+#[test]
+fn search_approvals(rt: HostRuntime) {
+    for (source, text, line) in APPROVALS {
+        prints(&rt, rt.alloc(), VERIFY, source, text, line);
+    }
+}
+
 /// What a verify writes where no condition has a block.
 #[test]
 fn empty_block(rt: HostRuntime) {

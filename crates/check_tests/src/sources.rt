@@ -596,7 +596,7 @@ const TOKENS: &[(&str, &str)] = &[
 ];
 
 /// A source of repeated pieces: a front, so many of one piece, a middle, as many of another, and an end.
-type Repeated<'a> = (&'a str, &'a str, &'a str, &'a str, &'a str);
+pub type Repeated<'a> = (&'a str, &'a str, &'a str, &'a str, &'a str);
 
 /// Sources that reach the greatest height with this many pieces, and pass it with one more. They break no typing rule.
 const DEEP: &[(Repeated<'static>, usize)] = &[
@@ -740,7 +740,7 @@ fn longest(
 }
 
 /// So many pieces behind the front, what stands in the middle, so many other pieces, and the end.
-fn repeated(alloc: Global, pieces: &Repeated<'_>, count: usize) -> Result<String, AllocError> {
+pub fn repeated(alloc: Global, pieces: &Repeated<'_>, count: usize) -> Result<String, AllocError> {
     let (front, piece, middle, other, end) = *pieces;
     let mut source = String::from_str(alloc, front)?;
     for _ in 0..count {

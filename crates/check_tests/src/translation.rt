@@ -1,13 +1,10 @@
 //! Sources, each with the terms of its conditions or its refusal. The expected texts were made by another program, written
-//! from the grammar, the translation and the numbering of docs/LANGUAGE.md and docs/CONDITIONS.md alone.
+//! from the grammar, the translation and the numbering of docs/LANGUAGE.md and docs/CONDITIONS.md alone; those of the two
+//! sources whose certificates stand in `commands` and `certificates` by hand.
 
+use crate::condition_lists::of_program;
 use crate::rows::is;
-use condition_code::emitter::Emitter;
-use condition_code::walk::Walk;
-use condition_walk::items::add_item_path;
-use graph_numbering::numbering::number;
-use graph_numbering::places::Places;
-use method::program::{Item, Program};
+use method::program::Program;
 use std::alloc::{AllocError, Global};
 use std::fmt::Write;
 use std::process::Abort;
@@ -159,6 +156,14 @@ const ROWS: &[(&str, &str)] = &[
         "Ch 0, Good 0, Int 2, Int 1, Le 2 3, Not 4, Imp 1 5",
     ),
     ("void main(int x) { x = 1; }", ""),
+    (
+        "void main(int x) _(requires x < 5) { _(assert x < 6) }",
+        "Ch 0, Good 0, Int -2147483648, Ci 0, Le 2 3, Int 2147483647, Le 3 5, Int 5, Le 7 3, Not 8, And 6 9, And 4 10, And 1 11, Int 6, Le 13 3, Not 14, Imp 12 15",
+    ),
+    (
+        "void main(int x) _(requires x == 5) { _(assert x == 5) }",
+        "Ch 0, Good 0, Int -2147483648, Ci 0, Le 2 3, Int 2147483647, Le 3 5, Int 5, Eq 3 7, And 6 8, And 4 9, And 1 10, Imp 11 8",
+    ),
 ];
 
 /// A term's kind, its index where it has no arguments, and its arguments.
@@ -184,34 +189,13 @@ fn show_condition(out: &mut String, terms: &Graph) -> Result<(), AllocError> {
     Ok(())
 }
 
-fn show_item(
-    alloc: Global,
-    out: &mut String,
-    program: &Program,
-    item: Item,
-) -> Result<(), AllocError> {
-    let mut walk = Walk::new(alloc);
-    add_item_path(&mut walk, program, item)?;
-    let mut emitter = Emitter::new(alloc);
-    let mut places = Places::new(alloc);
-    for _ in 0..=walk.path.len() {
-        let Some(root) = emitter.next(&mut walk.graph, &walk.path)? else {
-            break;
-        };
+fn shown(alloc: Global, program: &Program) -> Result<String, AllocError> {
+    let mut out = String::new(alloc);
+    for terms in &of_program(alloc, program)? {
         if !out.is_empty() {
             out.push_str(" | ")?;
         }
-        let mut terms = Graph::new(alloc);
-        number(&walk.graph, root, &mut terms, &mut places)?;
-        show_condition(out, &terms)?;
-    }
-    Ok(())
-}
-
-fn shown(alloc: Global, program: &Program) -> Result<String, AllocError> {
-    let mut out = String::new(alloc);
-    for item in &program.items {
-        show_item(alloc, &mut out, program, *item)?;
+        show_condition(&mut out, terms)?;
     }
     Ok(out)
 }

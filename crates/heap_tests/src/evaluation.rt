@@ -14,7 +14,7 @@ use spec_eval::eval::{entry_holds, holds, holds_of};
 use std::alloc::Global;
 use std::process::Abort;
 use std::test::Fail;
-use world::{A, B, World};
+use world::{A, B, C, W, World};
 
 const BIG: i128 = i128::MAX;
 
@@ -296,6 +296,27 @@ fn values_of_expressions(rt: HostRuntime) -> Result<(), Fail> {
             let e = read(rt.alloc(), *text)?;
             assert!(rt; world.eval(&e) == wanted(*gives), "{text}");
         }
+    }
+    Ok(())
+}
+
+/// What K claims in six heaps, and whether it claims B and W and nothing else.
+const CLAIMED: &[(&[Ref], i128)] = &[
+    (&[], 0),
+    (&[B], 0),
+    (&[W], 0),
+    (&[B, W], 1),
+    (&[B, C], 0),
+    (&[B, C, W], 0),
+];
+
+#[test]
+fn claimed_sets_of_six_heaps(rt: HostRuntime) -> Result<(), Fail> {
+    let mut world = World::new(rt.alloc())?;
+    let both = read(rt.alloc(), "claims_only k 2 b w")?;
+    for (objects, is) in CLAIMED {
+        world.claim(*objects)?;
+        assert!(rt; world.eval(&both) == Ok(Value::Int(*is)));
     }
     Ok(())
 }

@@ -1,1 +1,3 @@
 mod Computed
+mod Evaluated
+mod Values

@@ -4,3 +4,5 @@ pub mod Columns
 pub mod LockFormulas
 pub mod BagFormulas
 pub mod Laws
+pub mod Evaluation
+pub mod Values

@@ -1,6 +1,7 @@
-//! The columns and quantified formulas of two programs, as the contract of a function that does nothing.
+//! The columns, quantified formulas and values of terms of worked programs, as contracts of functions that do nothing.
 
 ghost use Rattle.language_rows.specs.Laws.{TextIsBag, LockColumns, BagColumns, LockFormulas, BagFormulas};
+ghost use Rattle.language_rows.specs.Values.{TermsHaveValues};
 
 /// The columns of the lock program and of one with claims and quantifiers, and their quantified formulas by their
 /// numbers, are those that were written down by hand.
@@ -10,4 +11,9 @@ pub fn language_is_this()
     ensures bag_columns { BagColumns }
     ensures lock_formulas { LockFormulas }
     ensures bag_formulas { BagFormulas }
+{}
+
+/// Terms over a heap with two closed objects and a claim have the values that were written down by hand.
+pub fn values_are_these()
+    ensures values { TermsHaveValues }
 {}

@@ -24,7 +24,7 @@ pub const A: Ref = Ref { ty: 3, serial: 1 };
 
 pub const B: Ref = Ref { ty: 3, serial: 2 };
 
-const C: Ref = Ref { ty: 4, serial: 1 };
+pub const C: Ref = Ref { ty: 4, serial: 1 };
 
 const D: Ref = Ref { ty: 4, serial: 2 };
 
@@ -38,7 +38,7 @@ const E: Ref = Ref { ty: 2, serial: 2 };
 const O: Ref = Ref { ty: 3, serial: 3 };
 
 /// Wrapped, with a claim on it.
-const W: Ref = Ref { ty: 3, serial: 4 };
+pub const W: Ref = Ref { ty: 3, serial: 4 };
 
 /// Freed.
 const F: Ref = Ref { ty: 3, serial: 5 };
@@ -162,6 +162,17 @@ impl World {
             after,
             env,
         })
+    }
+
+    /// Now K claims these of B, C and W.
+    pub fn claim(&mut self, objects: &[Ref]) -> Result<(), AllocError> {
+        for o in [B, C, W] {
+            let claimed = objects
+                .iter()
+                .any(|object: &Ref| -> bool { object.is_same(o) });
+            self.after.set_listed(K, o, claimed)?;
+        }
+        Ok(())
     }
 
     pub fn eval(&self, e: &Spec) -> Result<Value, EvalFault> {
