@@ -2,16 +2,20 @@
 export PATH := $(PATH):/opt/rattle/bin
 PREFIX ?= /usr/local
 CRATE ?= vcc
+SOURCE ?= examples/tutorial/step1.c
 EXAMPLES := $(CURDIR)/examples
 CORES := $(shell nproc)
 
-.PHONY: run build install test check fmt
+.PHONY: run try build install test check fmt
 
-# Judges the lock and replays it, without proving anything first: about four minutes.
+# Judges the lock and replays it, by one build without proofs: two to three minutes.
 run:
 	@echo "unproved run; \`make test\` proves it"
-	@cd crates/vcc && rt try -- check $(EXAMPLES)/lock.c $(EXAMPLES)/lock.cert
-	@cd crates/vcc && rt try -- run $(EXAMPLES)/lock.c $(EXAMPLES)/lock.sched
+	@cd crates/vcc && rt try --cases $(EXAMPLES)/cases $(foreach it,c cert sched,--data lock.$(it)=$(EXAMPLES)/lock.$(it))
+
+# Prints what `verify` says of one source, by a build without proofs; no certificate is kept: make try SOURCE=mine.c
+try:
+	@cd crates/vcc && rt try --data source.c=$(abspath $(SOURCE)) -- verify source.c source.cert
 
 # Proves and builds the program and every crate below it, lowest first, on all cores: some two hours on four.
 build:
