@@ -8,4 +8,6 @@ pub mod Agreeing
 pub mod Jobs
 pub mod Rows
 pub mod Places
+pub mod Sized
+pub mod Coefficients
 pub mod Cutting

@@ -5,6 +5,8 @@ pub mod Sides
 pub mod Walks
 pub mod Rows
 pub mod Tests
+pub mod Coefficients
+pub mod Sizes
 pub mod Values
 pub mod Sound
 pub mod Comparisons

@@ -6,5 +6,7 @@ pub mod bound;
 pub mod cut;
 pub mod form;
 pub mod linear;
+mod one_pass;
+mod sizes;
 pub mod split;
 pub mod steps;

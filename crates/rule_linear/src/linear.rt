@@ -6,18 +6,20 @@ ghost use Rattle.rule_linear.specs.Rows.{IsLinear, LinearLeaves};
 ghost use Rattle.rule_linear.specs.Sides.{Reach};
 ghost use Rattle.rule_linear.specs.Sound.{linear_sound};
 ghost use Rattle.rule_linear.specs.Tests.{IsWeighting, IsLinearOf, LinearLeavesOf};
-ghost use Rattle.rule_linear.specs.Walks.{IsTotalKnown};
+ghost use Rattle.rule_linear.specs.Walks.{IsTotalKnown, IsAllKnown};
 
 use crate::agreement::{Target, agrees};
 use crate::bound::{Weights, are_weights, total_part};
 use crate::form::Part;
+use crate::one_pass::sums_up;
+use crate::sizes::total_size;
 use crate::steps::add_up;
 use int_ranges::exact::Wide;
 use term_graph::graph::Graph;
 use terms::numbers::Numbers;
 use terms::sort::Sort;
 use terms::term::Literal;
-use vcc_rules::rule::{Clauses, Rule, Scratch};
+use vcc_rules::rule::{Clauses, Rule, Scratch, Summand};
 
 /// Multiples of the literals' bounds sum to a positive number. It takes one multiplier for each literal.
 #[derive(Clone, Copy, Debug)]
@@ -42,17 +44,29 @@ impl<'a> Rule for Linear<'a> {
         _below: usize,
         detail: &Numbers,
         clause: &[Literal],
-        _scratch: &mut Scratch,
+        scratch: &mut Scratch,
     ) -> Result<bool, Wide> {
         let weights = Weights {
             sorts: self.sorts,
             multipliers: detail.as_slice(),
             literals: clause,
         };
-        is_linear(terms, weights)
+        is_linear(terms, weights, scratch.summands())
     }
 
     ghost sound = { λ rule language terms earlier below detail clause suits. linear_sound language rule.sorts.now terms earlier.root earlier.list.items below detail clause };
+}
+
+/// Whether the size of the sum of the multiples fits, and so do all numbers on the way to it.
+fn fits(terms: &Graph, weights: Weights<'_>) -> bool
+    requires within { IsWithin (length terms.now) weights.literals.now }
+    requires lengths { length weights.multipliers.now ≡ length weights.literals.now }
+    ensures { IsTrue result → IsAllKnown weights.entry terms.now }
+{
+    match total_size(terms, weights) {
+        Ok(_) => true,
+        Err(_) => false,
+    }
 }
 
 /// Whether the multiples sum to a positive number, if they fit the literals.
@@ -60,14 +74,18 @@ impl<'a> Rule for Linear<'a> {
 /// # Errors
 /// The operands of the first number on the way that leaves 128 bits.
 #[tactic(auto, using(crate::proofs::Rows::lengths, crate::proofs::Rows::whole_known, crate::proofs::Rows::no_linear, crate::proofs::Rows::no_leaves, crate::proofs::Rows::none_leaves))]
-fn is_linear(terms: &Graph, weights: Weights<'_>) -> Result<bool, Wide>
-    requires { IsWithin (length terms.now) weights.literals.now }
+fn is_linear(terms: &Graph, weights: Weights<'_>, room: &mut [Summand]) -> Result<bool, Wide>
+    requires within { IsWithin (length terms.now) weights.literals.now }
+    requires room { length room.old ≡ length terms.now }
     ensures rows { IfOk result (λ yes. IsTrue yes ↔ IsLinearOf weights.entry terms.now) }
     ensures exact { IfOk result (λ yes. (w : Wide) → LinearLeavesOf weights.entry terms.now w → ⊥) }
     ensures wide { IfErr result (LinearLeavesOf weights.entry terms.now) }
 {
     if !are_weights(terms, weights) {
         return Ok(false);
+    }
+    if fits(terms, weights) {
+        return Ok(sums_up(terms, weights, room));
     }
     add_up(terms, weights)?;
     Ok(is_positive_number(terms, weights))

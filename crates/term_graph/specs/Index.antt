@@ -6,13 +6,14 @@ use Rattle.term_pool.specs.Region.{Region}
 use Rattle.terms.specs.declared.term.Term.{Term}
 use Rattle.term_graph.specs.Graph.{IsGraph}
 
--- a hash on 64 bits with a number more. From multiplicative hashing: the factor is odd and near 2^64 by the golden ratio.
+-- a hash on 64 bits with a number more. From polynomial hashing: the factor is odd and near 2^64 by the golden ratio. The
+-- last number is added as it is, so terms that are made one after the other mostly have buckets near one another.
 abbrev pub mix : ℕ → ℕ → ℕ
-mix h n = bit_xor h n * 0x9e37_79b9_7f4a_7c15 % 2 ^ 64
+mix h n = (h * 0x9e37_79b9_7f4a_7c15 % 2 ^ 64 + n) % 2 ^ 64
 
--- a term's hash: the upper half, on which each bit has its say. Its kind isn't in it, since few terms differ in it alone
+-- a term's hash. Its kind isn't in it, since few terms differ in it alone
 unfoldable pub hash : Term → ℕ
-hash t = fold mix (mix 0 (unsigned_abs t.index % 2 ^ 64)) t.args / 2 ^ 32
+hash t = fold mix (mix 0 (unsigned_abs t.index % 2 ^ 64)) t.args
 
 -- the bucket of the term with this number, of so many buckets
 unfoldable pub bucket_of : ℕ → List Term → ℕ → ℕ

@@ -22,7 +22,7 @@ const SPREAD: u64 = 0x9e37_79b9_7f4a_7c15;
 fn mix(hash: u64, number: u64) -> u64
     ensures { result ≡ spec.mix hash number }
 {
-    (hash ^ number).wrapping_mul(SPREAD)
+    hash.wrapping_mul(SPREAD).wrapping_add(number)
 }
 
 #[tactic(auto, unfolding(crate::specs::Index::hash))]
@@ -31,7 +31,7 @@ fn hash(node: &Term) -> u64
 {
     let index = (node.index.unsigned_abs() % (1 << 64)) as u64;
     let numbers = node.args.numbers().iter();
-    numbers.fold(mix(0, index), |hash, arg| mix(hash, u64::from(*arg))) >> 32
+    numbers.fold(mix(0, index), |hash, arg| mix(hash, u64::from(*arg)))
 }
 
 impl Index {
