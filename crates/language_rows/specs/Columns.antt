@@ -1,4 +1,4 @@
--- The columns of the two programs, by their numbers, with the sorts of their keys and values (docs/CONDITIONS.md, "State" and "Terms"). Own.
+-- The columns of the three programs, by their numbers, with the sorts of their keys and values (docs/CONDITIONS.md, "State" and "Terms"). Own.
 use Rattle.std.specs.Prelude.{List, [], ◌∷◌, ◌++◌}
 use Rattle.terms.specs.declared.sort.Sort.{Sort}
 use Rattle.terms.specs.declared.sort.Sort.TheVariants as s
@@ -39,3 +39,10 @@ bag_columns =
 
 abbrev pub bag_names : List Column
 bag_names = Modes ∷ Owners ∷ Counts ∷ OwnedSets ∷ ClaimedSets ∷ Field 0 ∷ Field 1 ∷ Field 2 ∷ Field 3 ∷ Shape 0 ∷ []
+
+-- 5 next, 6 rank, 7 first, 8 best; no claim is made, so there is no conjunct
+abbrev pub shop_columns : List Sorted
+shop_columns = of_every_program ++ reference_of_each ∷ number_of_each ∷ reference_of_each ∷ reference_of_each ∷ []
+
+abbrev pub shop_names : List Column
+shop_names = Modes ∷ Owners ∷ Counts ∷ OwnedSets ∷ ClaimedSets ∷ Field 0 ∷ Field 1 ∷ Field 2 ∷ Field 3 ∷ []

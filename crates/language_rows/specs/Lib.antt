@@ -1,8 +1,11 @@
 pub mod BagSource
 pub mod BagProgram
+pub mod ShopSource
+pub mod ShopProgram
 pub mod Columns
 pub mod LockFormulas
 pub mod BagFormulas
+pub mod ShopFormulas
 pub mod Laws
 pub mod Evaluation
 pub mod Values

@@ -7,7 +7,7 @@ use Rattle.method.specs.Trace.{Memory}
 use Rattle.terms.specs.declared.term.Kind.{Kind}
 use Rattle.terms.specs.declared.term.Kind.TheVariants as k
 use Rattle.terms.specs.Formula.{Formula, Node, Stop, binary}
-use Rattle.conditions.specs.Formulas.{node, int, nat, null, me, integer, reference, heap, true_formula, false_formula, not', and', or', imp, eq, le, ite, typ, get, set}
+use Rattle.conditions.specs.Formulas.{node, int, nat, null, me, integer, reference, heap, true_formula, false_formula, and', or', imp, eq, le, ite, typ, get, set}
 use Rattle.term_meaning.specs.RawHeaps.{raw}
 use Rattle.term_meaning.specs.Meaning.{Language, Env, Value, BoolValue, HeapValue, int_value, ref_value, Gives}
 

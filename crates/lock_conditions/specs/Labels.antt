@@ -5,6 +5,8 @@ use Rattle.method.specs.declared.program.Item.TheVariants.{Struct, Function}
 use Rattle.method.specs.declared.program.CheckKind.{CheckKind}
 use Rattle.method.specs.declared.program.CheckKind.TheVariants.{Read, Write, Writes, Owns, Wrap, Unwrap, Claimed, Invariant, AtomicClosed, MakeClaim, ClaimStable, Requires, Ensures, Spawn, Reflexive, Stable}
 use Rattle.method.specs.Labels.{ProgramLabel}
+use Rattle.terms.specs.Formula.{Formula}
+use Rattle.conditions.specs.Conditions.{Condition}
 
 -- check number n of an item
 abbrev pub check : Item → ℕ → CheckKind → ℕ → ProgramLabel
@@ -30,6 +32,10 @@ of_worker = check (Function 3)
 
 abbrev pub of_main : ℕ → CheckKind → ℕ → ProgramLabel
 of_main = check (Function 4)
+
+-- the condition with a label
+abbrev pub under : ProgramLabel → Formula → Condition
+under label f = record { label = label; formula = f }
 
 abbrev pub type_labels : List ProgramLabel
 type_labels =

@@ -1,9 +1,12 @@
--- Conditions of the lock's two types, over an object o of the type and the heaps h before and k after a step (docs/CONDITIONS.md, "Types"). Own.
-use Rattle.std.specs.Prelude.{[], ◌∷◌}
+-- The conditions of the lock's two types, Data (type 3) and Lock (type 4), over an object o of the type and the heaps before and after a step (docs/CONDITIONS.md, "Types"). Own.
+use Rattle.std.specs.Prelude.{ℕ, List, [], ◌∷◌}
+use Rattle.method.specs.declared.program.CheckKind.TheVariants.{Reflexive, Stable}
 use Rattle.terms.specs.declared.term.Kind.TheVariants as k
 use Rattle.terms.specs.Formula.{Formula}
 use Rattle.conditions.specs.Formulas.{node, nat, reference, heap, not', eq, typ}
+use Rattle.conditions.specs.Conditions.{Condition}
 use Rattle.lock_conditions.specs.Words.{condition, closed, good, inv}
+use Rattle.lock_conditions.specs.Labels.{under, of_data, of_lock}
 
 abbrev o : Formula
 o = reference 0
@@ -14,17 +17,23 @@ earlier = heap 0
 abbrev later : Formula
 later = heap 1
 
--- Data, type 3: a kept step leaves its objects with their invariant over the later heap
-abbrev pub data_is_reflexive : Formula
-data_is_reflexive =
-    condition (good earlier ∷ node k.Kept (earlier ∷ later ∷ []) ∷ eq (typ o) (nat 3) ∷ closed later o ∷ [])
+-- a kept step leaves the objects of a type with their invariant over the later heap
+abbrev is_reflexive : ℕ → Formula
+is_reflexive ty =
+    condition (good earlier ∷ node k.Kept (earlier ∷ later ∷ []) ∷ eq (typ o) (nat ty) ∷ closed later o ∷ [])
     (inv o later later)
 
--- Lock, type 4: no legal step that leaves an object untouched breaks its invariant
-abbrev pub lock_is_stable : Formula
-lock_is_stable =
+-- no legal step that leaves an object of a type untouched breaks its invariant
+abbrev is_stable : ℕ → Formula
+is_stable ty =
     condition
-    (good earlier ∷ node k.Legal (earlier ∷ later ∷ []) ∷ eq (typ o) (nat 4) ∷ closed earlier o ∷ closed later o
+    (good earlier ∷ node k.Legal (earlier ∷ later ∷ []) ∷ eq (typ o) (nat ty) ∷ closed earlier o ∷ closed later o
     ∷ not' (node k.Touched (o ∷ earlier ∷ later ∷ []))
     ∷ [])
     (inv o earlier later)
+
+abbrev pub conditions_of_data : List Condition
+conditions_of_data = under (of_data 1 Reflexive 2) (is_reflexive 3) ∷ under (of_data 2 Stable 2) (is_stable 3) ∷ []
+
+abbrev pub conditions_of_lock : List Condition
+conditions_of_lock = under (of_lock 1 Reflexive 6) (is_reflexive 4) ∷ under (of_lock 2 Stable 6) (is_stable 4) ∷ []

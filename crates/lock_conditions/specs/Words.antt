@@ -52,6 +52,10 @@ mutable h o = and' (eq (mode h o) (nat 1)) (owned_by me h o)
 abbrev pub wrapped : Formula → Formula → Formula
 wrapped h o = and' (closed h o) (owned_by me h o)
 
+-- c is wrapped and lists o
+abbrev pub claims_object : Formula → Formula → Formula → Formula
+claims_object h c o = and' (wrapped h c) (lists h c o)
+
 -- \fresh(o): `\me` didn't own o in the heap at entry, e
 abbrev pub fresh : Formula → Formula → Formula
 fresh e o = not' (owned_by me e o)

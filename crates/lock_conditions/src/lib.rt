@@ -1,4 +1,4 @@
-//! The conditions of the lock program, written out by hand, one of each kind, and the labels of all 71.
+//! The 71 conditions of the lock program, written out by hand, each with its label.
 #![tactic(auto)]
 
 pub mod laws;
