@@ -94,6 +94,7 @@ pub fn add_claim(h: &mut Heap, t: Ref, objects: &[Ref], parts: &[Entry]) -> Resu
 pub fn drop_claim(h: &mut Heap, c: Ref) -> Result<(), ClaimFault>
     ensures ok { OnOk result (look_up h.new ≡ (without_claim c (heap_of h.old)).get) }
     ensures full { IfErr result (OverflowsIfFull (negsuc 0) (look_up h.old c).listed (heap_of h.old)) }
+    ensures serial { IfErr result (λ fault. fault ≡ ClaimFault.NoSerial → ⊥) }
     ensures err { OnErr result (h.new ≡ h.old) }
 {
     let mut after = h.copy()?;

@@ -16,14 +16,15 @@ use Rattle.method.specs.Actions as m
 use Rattle.machine_values.specs.declared.stop.Stop.{Stop}
 use Rattle.machine_values.specs.declared.stop.Stop.TheVariants.{Misfit as NotEnabled, Fault as Faulted, Wide, Exhausted, OutOfMemory}
 use Rattle.machine_values.specs.Spots.{heap_at}
-use Rattle.machine_values.specs.Answers.{Stops, Verdict, Passes, Fails, Overflows, one_verdict, verdict, Finds, plain}
+use Rattle.machine_values.specs.Answers.{Stops, StopsOr, Verdict, Passes, Fails, Overflows, one_verdict, verdict, Finds, plain}
 use Rattle.machine_values.specs.Testing.{inv_tests}
-use Rattle.machine_values.proofs.Outcomes.{stops_after}
+use Rattle.machine_values.proofs.Outcomes.{stops_after, stops_or_after, runs_out_too}
 use Rattle.machine_values.proofs.SameTests.{same_inv_test}
 use Rattle.machine_values.proofs.Verdicts.{checks_pass, checks_stop, each_checked}
 use Rattle.machine_objects.specs.declared.progress.Progress.{Progress}
 use Rattle.machine_objects.specs.Runs.{Extra, progress_at, deferred_at, Follows, Lands, Runs}
-use Rattle.machine_objects.proofs.Landing.{then_comes, of_follower}
+use Rattle.machine_objects.proofs.Landing.{then_comes, behind_gives, of_follower}
+use Rattle.machine_actions.specs.RunsOut.{ListRunsOut, BlockRunsOut}
 
 -- what checks with this verdict come to, where o stands behind them
 abbrev Says : {A : Type 0} → Verdict → Outcome A → Outcome A → Type 0
@@ -103,6 +104,9 @@ module _ (p : Program) (at_ : Spot) (ls : List Listed) (body : List Inner) (n : 
   abbrev pub inner_run : List Ref → Outcome m.Progress
   inner_run os = m.run_list p at_.context os body (closed_at + length ls) m.no_tally g
 
+  abbrev pub inner_out : List Ref → Type 0
+  inner_out os = ListRunsOut p at_.context os body (closed_at + length ls) m.no_tally g
+
   abbrev with_values : List Value → Outcome m.Progress
   with_values vs = let os = map referent vs in check_each at_ (map (closed_in g.heap) os) closed_at AtomicClosed (after (inner_run os) (λ g'. behind os g'))
 
@@ -126,8 +130,13 @@ module _ (p : Program) (at_ : Spot) (ls : List Listed) (body : List Inner) (n : 
       entered : m.atomic p at_ ls body n g ≡ after (inner_run os) (behind os)
       entered = valued ∙ checks_pass at_ AtomicClosed (after (inner_run os) (behind os)) tests closed_at all_closed
 
-      pub inner_stop : (s : Stop) → Stops s (inner_run os) → Stops s (m.atomic p at_ ls body n g)
-      inner_stop s h = subst (Stops s) (sym entered) (stops_after s (inner_run os) (behind os) h)
+      -- numbers may run out on the statements' way
+      pub inner_stop : (s : Stop) → StopsOr (inner_out os) s (inner_run os) → StopsOr (BlockRunsOut p at_ ls body n g) s (m.atomic p at_ ls body n g)
+      inner_stop s h =
+          subst (λ z. StopsOr (BlockRunsOut p at_ ls body n g) s z) (sym entered)
+          (runs_out_too (inner_out os) (BlockRunsOut p at_ ls body n g) s (after (inner_run os) (behind os))
+          (λ out. behind_gives (m.run_exprs p at_ (m.listed_exprs ls) n g) vs (λ us. inner_out (map referent us)) values (subst inner_out objects out))
+          (stops_or_after (inner_out os) s (inner_run os) (behind os) h))
 
       pub block_comes : (now : Progress) → Lands (Follows now) (inner_run os) → (r : Result (Unit {0}) Stop) (last : Progress) → ((e : Extra) → IsFinite (heap_at e.support now.heap) → Runs r last (behind os (progress_at e now))) → Runs r last (m.atomic p at_ ls body n g)
       block_comes now ran r last ends =

@@ -30,7 +30,7 @@ module _ {A : Type 0} (at_ : Spot) (t : Tested) (n : ℕ) (kind : CheckKind) (o 
   test_stops NotEnabled h = absurd h
   test_stops (Faulted k line) h = absurd h
   test_stops (Wide w) h = ap (λ v. or_else v (check at_ t.holds n kind o).overflow) h
-  test_stops Exhausted h = tt
+  test_stops Exhausted h = h
   test_stops OutOfMemory h = tt
 
 -- an annotation tested in the code's environment is the one that the definitions test

@@ -1,3 +1,4 @@
 pub mod Running
 pub mod Enabled
 pub mod Inside
+pub mod RunsOut

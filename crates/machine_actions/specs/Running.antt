@@ -13,16 +13,16 @@ use Rattle.machine_values.specs.declared.spot.Spot.{Spot}
 use Rattle.machine_values.specs.declared.stop.Stop.{Stop}
 use Rattle.machine_values.specs.Spots.{heap_at, context_at}
 use Rattle.machine_objects.specs.declared.progress.Progress.{Progress}
-use Rattle.machine_objects.specs.Runs.{Runs, Inside}
-use Rattle.machine_ownership.specs.Owned.{Performs}
+use Rattle.machine_objects.specs.Runs.{RunsOr, Inside}
+use Rattle.machine_ownership.specs.Owned.{PerformsOr}
 
--- The code goes from the one progress to the other as the definition's statement does, whatever claims stand in front of it in its block, and whatever number its first check has.
-abbrev pub PerformsSimple : Result (Unit {0}) Stop → Spot → Progress → Progress → (Program → x.Spot → ℕ → m.Tally → m.Progress → x.Outcome m.Progress) → Type 0
-PerformsSimple result at_ first last item = (t : m.Tally) → Performs result at_ first last (λ p s n g. item p s n t g)
+-- The code goes from the one progress to the other as the definition's statement does, whatever claims stand in front of it in its block, and whatever number its first check has; unless numbers run out, as they do at the statement.
+abbrev pub PerformsSimple : Result (Unit {0}) Stop → Spot → Progress → Progress → (Program → x.Spot → ℕ → m.Progress → Type 0) → (Program → x.Spot → ℕ → m.Tally → m.Progress → x.Outcome m.Progress) → Type 0
+PerformsSimple result at_ first last runs_out item = (t : m.Tally) → PerformsOr result at_ first last runs_out (λ p s n g. item p s n t g)
 
 -- the same of what stands inside the block of this place
-abbrev pub PerformsInside : Result (Unit {0}) Stop → Spot → Progress → Progress → (Program → x.Context → List Ref → ℕ → m.Tally → m.Progress → x.Outcome m.Progress) → Type 0
-PerformsInside result at_ first last item = (t : m.Tally) → Inside at_ first (λ p x os g n. Runs result last (item p x os n t g))
+abbrev pub PerformsInside : Result (Unit {0}) Stop → Spot → Progress → Progress → (Program → x.Context → List Ref → ℕ → m.Tally → m.Progress → Type 0) → (Program → x.Context → List Ref → ℕ → m.Tally → m.Progress → x.Outcome m.Progress) → Type 0
+PerformsInside result at_ first last runs_out item = (t : m.Tally) → Inside at_ first (λ p x os g n. RunsOr (runs_out p x os n t g) result last (item p x os n t g))
 
 -- in this environment, over the heap at the entry and any other, words mean what they mean in the run of this context with these variables
 abbrev pub IsRunEnv : Context → List Value → Env → Type 0

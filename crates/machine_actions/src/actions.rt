@@ -3,9 +3,11 @@
 ghost use Rattle.std.specs.Prelude.{◌≡◌, IfOk, IfSome, IfNone, Some, None, slice_get};
 ghost use Rattle.method.specs.declared.program.Action.TheVariants.{Define, AssertSpec};
 ghost use Rattle.method.specs.Actions.{run_action};
-ghost use Rattle.machine_ownership.specs.Owned.{Performs};
+ghost use Rattle.machine_ownership.specs.Owned.{Performs, PerformsOr};
+ghost use Rattle.machine_ownership.specs.RunsOut.{NoThread};
 ghost use Rattle.machine_actions.specs.Enabled.{enabled_action, thread_start};
 ghost use Rattle.machine_actions.specs.Running.{IsRunEnv};
+ghost use Rattle.machine_actions.specs.RunsOut.{ActionRunsOut};
 
 use crate::blocks::atomic;
 use crate::fits::action_fits;
@@ -61,7 +63,8 @@ fn define(
     right: &RightSide,
     progress: &mut Progress,
 ) -> Result<(), Stop>
-    ensures { Performs result at.now progress.old progress.new (λ p s. run_action p s (Define i right.now)) }
+    ensures { PerformsOr result at.now progress.old progress.new
+        (λ p s. ActionRunsOut p s (Define i right.now)) (λ p s. run_action p s (Define i right.now)) }
 {
     let v = right_side(alloc, at, right, Place::InLocal(i), progress)?;
     store(at, Place::InLocal(i), v, progress)
@@ -83,7 +86,8 @@ fn spawn_thread(
     es: &[Expr],
     progress: &mut Progress,
 ) -> Result<(), Stop>
-    ensures { Performs result at.now progress.old progress.new (λ p s. thread_start p s number es.now) }
+    ensures { PerformsOr result at.now progress.old progress.new
+        (λ p s n g. NoThread g.supply g.heap) (λ p s. thread_start p s number es.now) }
 {
     let args = eval_all(alloc, at, &progress.heap, &progress.locals, es)?;
     let Some(function) = function_of(at.program, number) else {
@@ -99,7 +103,8 @@ fn run_action(
     action: &Action,
     progress: &mut Progress,
 ) -> Result<(), Stop>
-    ensures { Performs result at.now progress.old progress.new (λ p s. run_action p s action.now) }
+    ensures { PerformsOr result at.now progress.old progress.new
+        (λ p s. ActionRunsOut p s action.now) (λ p s. run_action p s action.now) }
 {
     match action {
         Action::Simply(simple) => run_simple(alloc, at, simple, progress),
@@ -139,7 +144,8 @@ pub fn act(
     action: &Action,
     progress: &mut Progress,
 ) -> Result<(), Stop>
-    ensures { Performs result at.now progress.old progress.new (λ p s. enabled_action p s action.now) }
+    ensures { PerformsOr result at.now progress.old progress.new
+        (λ p s. ActionRunsOut p s action.now) (λ p s. enabled_action p s action.now) }
 {
     if !action_fits(at.program, at.context.function, action, at.choices) {
         return Err(Stop::Misfit);

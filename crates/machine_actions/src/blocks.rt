@@ -6,9 +6,10 @@ ghost use Rattle.method.specs.Actions.{run_inner, run_list, run_exprs, listed_ex
 ghost use Rattle.machine_values.specs.Answers.{Finds, verdict};
 ghost use Rattle.machine_values.specs.Items.{YieldsAll};
 ghost use Rattle.machine_objects.specs.Runs.{Reading};
-ghost use Rattle.machine_ownership.specs.Owned.{Performs};
+ghost use Rattle.machine_ownership.specs.Owned.{PerformsOr};
 ghost use Rattle.machine_actions.specs.Running.{PerformsInside};
 ghost use Rattle.machine_actions.specs.Inside.{IsInside, closed_tests};
+ghost use Rattle.machine_actions.specs.RunsOut.{InnerRunsOut, ListRunsOut, BlockRunsOut};
 
 use crate::simple::{referents, run_simple};
 use machine_objects::progress::Progress;
@@ -45,7 +46,8 @@ fn run_inner(
     inner: &Inner,
     progress: &mut Progress,
 ) -> Result<(), Stop>
-    ensures { PerformsInside result at.now progress.old progress.new (λ p x os. run_inner p x os inner.now) }
+    ensures { PerformsInside result at.now progress.old progress.new
+        (λ p x os. InnerRunsOut p x os inner.now) (λ p x os. run_inner p x os inner.now) }
 {
     match inner {
         Inner::Inside(line, simple) => run_simple(alloc, &inside(at, *line), simple, progress),
@@ -73,7 +75,8 @@ fn run_list(
     row: &[Inner],
     progress: &mut Progress,
 ) -> Result<(), Stop>
-    ensures { PerformsInside result at.now progress.old progress.new (λ p x os. run_list p x os row.now) }
+    ensures { PerformsInside result at.now progress.old progress.new
+        (λ p x os. ListRunsOut p x os row.now) (λ p x os. run_list p x os row.now) }
 {
     for inner in row {
         run_inner(alloc, at, inner, progress)?;
@@ -136,7 +139,8 @@ pub fn atomic(
     body: &[Inner],
     progress: &mut Progress,
 ) -> Result<(), Stop>
-    ensures { Performs result at.now progress.old progress.new (λ p s. atomic p s listed.now body.now) }
+    ensures { PerformsOr result at.now progress.old progress.new
+        (λ p s. BlockRunsOut p s listed.now body.now) (λ p s. atomic p s listed.now body.now) }
 {
     let values = eval_listed(alloc, at, listed, progress)?;
     let objects = referents(alloc, &values)?;

@@ -5,6 +5,7 @@ ghost use Rattle.object_types.specs.Values.{referent};
 ghost use Rattle.method.specs.declared.program.Simple.TheVariants.{Assign};
 ghost use Rattle.method.specs.Actions.{run_simple};
 ghost use Rattle.machine_actions.specs.Running.{PerformsSimple};
+ghost use Rattle.machine_actions.specs.RunsOut.{SimpleRunsOut};
 
 use machine_claims::interlocked::right_side;
 use machine_claims::making::end_claim;
@@ -28,7 +29,8 @@ fn assign(
     right: &RightSide,
     progress: &mut Progress,
 ) -> Result<(), Stop>
-    ensures { PerformsSimple result at.now progress.old progress.new (λ p s. run_simple p s (Assign target.now right.now)) }
+    ensures { PerformsSimple result at.now progress.old progress.new
+        (λ p s. SimpleRunsOut p s (Assign target.now right.now)) (λ p s. run_simple p s (Assign target.now right.now)) }
 {
     let place = left_side(alloc, at, target, progress)?;
     let v = right_side(alloc, at, right, place, progress)?;
@@ -54,7 +56,8 @@ pub fn run_simple(
     simple: &Simple,
     progress: &mut Progress,
 ) -> Result<(), Stop>
-    ensures { PerformsSimple result at.now progress.old progress.new (λ p s. run_simple p s simple.now) }
+    ensures { PerformsSimple result at.now progress.old progress.new
+        (λ p s. SimpleRunsOut p s simple.now) (λ p s. run_simple p s simple.now) }
 {
     match simple {
         Simple::Assign(target, right) => assign(alloc, at, target, right, progress),

@@ -9,3 +9,4 @@ pub mod Counted
 pub mod Ended
 pub mod Exchanging
 pub mod Calling
+pub mod Lacking

@@ -9,8 +9,9 @@ ghost use Rattle.method.specs.Actions.{Tally, counts, replaced, given, operands}
 ghost use Rattle.method.specs.Actions.{exchange, convert_to, afterwards, right_side};
 ghost use Rattle.machine_values.specs.Answers.{Yields};
 ghost use Rattle.machine_values.specs.Items.{AtSpot, YieldsAll};
-ghost use Rattle.machine_objects.specs.Runs.{Reading, RunsTo, place_of, ended_value};
+ghost use Rattle.machine_objects.specs.Runs.{Reading, RunsTo, RunsToOr, place_of, ended_value};
 ghost use Rattle.machine_claims.specs.Calls.{run_value, run_call, IsReplaced};
+ghost use Rattle.machine_claims.specs.RunsOut.{RightRunsOut};
 
 use crate::making::make_claim;
 use int_ranges::ctype::CType;
@@ -205,6 +206,11 @@ fn site_of(program: &Program, n: u32) -> Option<&ClaimSite>
 }
 
 /// The value of a right side, whose value will be stored at the place.
+///
+/// # Errors
+/// The fault of its first check that fails; Wide, with the operands of the first exact result on the way that leaves 128
+/// bits; Misfit where a malloc has no choice, or there is no claim site of its number; Exhausted where no reference is
+/// left for what it makes, or a claim count would leave 128 bits.
 pub fn right_side(
     alloc: Global,
     at: &Spot<'_>,
@@ -214,7 +220,8 @@ pub fn right_side(
 ) -> Result<Value, Stop>
     ensures { (t : Tally) →
         Reading at.now progress.old
-        (λ p s g n. RunsTo result progress.new (right_side p s right.now (place_of place) n t g)) }
+        (λ p s g n. RunsToOr (RightRunsOut p s right.now n g) result progress.new
+        (right_side p s right.now (place_of place) n t g)) }
 {
     match right {
         RightSide::Compute(e) => compute_value(alloc, at, e, progress),

@@ -1,6 +1,6 @@
 //! Claims: made, ended.
 
-ghost use Rattle.std.specs.Prelude.{◌≡◌, ◌++◌, ◌∷◌, ℕ, [], List, map, Some};
+ghost use Rattle.std.specs.Prelude.{◌≡◌, ◌⊎◌, ◌++◌, ◌∷◌, ℕ, negsuc, [], List, map, Some};
 ghost use Rattle.std.specs.Prelude.{IsTrue, OnOk, IfOk, IfErr};
 ghost use Rattle.object_types.specs.Sets.{all_distinct, every, is_in};
 ghost use Rattle.object_types.specs.Heap.{Heap as AHeap, IsFinite, closed_in, fresh};
@@ -15,9 +15,11 @@ ghost use Rattle.method.specs.Expressions.{scene};
 ghost use Rattle.method.specs.Actions.{Progress as AProgress, Valued, Tally, stored_heap};
 ghost use Rattle.method.specs.Actions.{run_claimed, claim_tests, make_claim, end_claim, may_end};
 ghost use Rattle.claims.specs.Making.{with_claim, without_claim};
+ghost use Rattle.claims.specs.Steps.{Overflows};
 ghost use Rattle.machine_values.specs.Spots.{heap_at, spot_at};
 ghost use Rattle.machine_values.specs.Answers.{Yields, Finds, verdict, plain};
-ghost use Rattle.machine_objects.specs.Runs.{Reading, Runs, RunsTo, IsRefs, IsSilent, place_of, count_tests};
+ghost use Rattle.machine_objects.specs.Runs.{Reading, RunsOr, RunsToOr, IsRefs, IsSilentOr, place_of, count_tests};
+ghost use Rattle.machine_claims.specs.RunsOut.{LacksClaim, MakingRunsOut, EndingRunsOut};
 ghost use Rattle.machine_claims.specs.Claiming.{run_one, claim_test, Guards, objects_checked, claim_checked};
 
 use claims::counts::ClaimFault;
@@ -179,7 +181,7 @@ fn check_claimed(at: &Spot<'_>, heap: &Heap, objects: &[Ref]) -> Result<(), Stop
 
 /// A stop for a claim that can't be made, or can't end.
 fn stop_of(fault: ClaimFault) -> Stop
-    ensures { IsSilent result }
+    ensures { IsSilentOr (fault ≡ ClaimFault.NoSerial ⊎ fault ≡ ClaimFault.CountFull) result }
 {
     match fault {
         ClaimFault::NoSerial | ClaimFault::CountFull => Stop::Exhausted,
@@ -195,7 +197,7 @@ fn new_claim(h: &mut Heap, me: Ref, objects: &[Ref], entries: &[Entry]) -> Resul
     ensures fresh { IfOk result (λ c. (y : List Reference) → IsFinite (heap_at y h.old) →
         c ≡ fresh (heap_at y h.old) 2) }
     ensures ok { IfOk result (λ c. look_up h.new ≡ (with_claim c me objects.now entries.now (heap_of h.old)).get) }
-    ensures err { IfErr result IsSilent }
+    ensures err { IfErr result (IsSilentOr (LacksClaim h.old objects.now)) }
 {
     new_reference(h, CLAIMS)?;
     add_claim(h, me, objects, entries).map_err(stop_of)
@@ -266,7 +268,8 @@ pub fn make_claim(
 ) -> Result<Value, Stop>
     ensures { (t : Tally) →
         Reading at.now progress.old
-        (λ p s g n. RunsTo result progress.new (make_claim p s (Some site.now) (place_of place) n t g)) }
+        (λ p s g n. RunsToOr (MakingRunsOut p s (Some site.now) n g) result progress.new
+        (make_claim p s (Some site.now) (place_of place) n t g)) }
 {
     let objects = claimed_objects(alloc, at, &site.claimed, progress)?;
     let entries = fill_conjuncts(alloc, at, &progress.locals, &site.conjuncts)?;
@@ -361,7 +364,8 @@ fn check_counted(at: &Spot<'_>, heap: &Heap, objects: &[Ref]) -> Result<(), Stop
 fn remove_claim(h: &mut Heap, c: Ref) -> Result<(), Stop>
     ensures ok { OnOk result (look_up h.new ≡ (without_claim c (heap_of h.old)).get) }
     ensures distinct { OnOk result (IsTrue (all_distinct (look_up h.old c).listed)) }
-    ensures err { IfErr result IsSilent }
+    ensures err { IfErr result
+        (IsSilentOr (Overflows (negsuc 0) (look_up h.old c).listed (heap_of h.old))) }
 {
     h.is_kept();
     drop_claim(h, c).map_err(stop_of)
@@ -391,7 +395,7 @@ pub fn end_claim(
 ) -> Result<(), Stop>
     ensures { (t : Tally) →
         Reading at.now progress.old
-        (λ p s g n. Runs result progress.new (end_claim p s c objects.now n t g)) }
+        (λ p s g n. RunsOr (EndingRunsOut c g) result progress.new (end_claim p s c objects.now n t g)) }
 {
     if !may_end(at, c, objects, &progress.heap) {
         return Err(at.fault(CheckKind::DestroyClaim));

@@ -9,9 +9,11 @@ use Rattle.method.specs.Actions as m
 use Rattle.machine_values.specs.declared.stop.Stop.{Stop}
 use Rattle.machine_values.specs.declared.stop.Stop.TheVariants.{Misfit as Misfit', Fault, Wide, Exhausted, OutOfMemory}
 use Rattle.machine_values.specs.Spots.{heap_at}
-use Rattle.machine_values.specs.Answers.{Stops, Comes}
+use Rattle.machine_values.proofs.Outcomes.{runs_out_too}
+use Rattle.machine_objects.specs.RunsOut.{Behind}
+use Rattle.machine_values.specs.Answers.{Stops, StopsOr, Comes, ComesOr}
 use Rattle.machine_objects.specs.declared.progress.Progress.{Progress}
-use Rattle.machine_objects.specs.Runs.{Extra, progress_at, Follows, Ended, Lands, Leaves, IsSilent}
+use Rattle.machine_objects.specs.Runs.{Extra, progress_at, Follows, Ended, Lands, Leaves, IsSilent, IsSilentOr}
 
 record Landed {A : Type 0} (Q : A → Type 0) (o : Outcome A) : Type 0 where
   what : A
@@ -30,19 +32,40 @@ module _ {A B : Type 0} (Q : A → Type 0) (o : Outcome A) (f : A → Outcome B)
   pub then_lands : (R : B → Type 0) → ((a : A) → Q a → Lands R (f a)) → Lands R (after o f)
   then_lands R k = let d = landed Q o l in subst (Lands R) (sym (ap (λ z. after z f) d.is)) (k d.what d.holds)
 
-  pub then_stops : (s : Stop) → ((a : A) → Q a → Stops s (f a)) → Stops s (after o f)
-  then_stops s k = let d = landed Q o l in subst (Stops s) (sym (ap (λ z. after z f) d.is)) (k d.what d.holds)
+  then_stops_or : (U : Type 0) (s : Stop) → ((a : A) → o ≡ Gives a → Q a → StopsOr U s (f a)) → StopsOr U s (after o f)
+  then_stops_or U s k = let d = landed Q o l in subst (λ z. StopsOr U s z) (sym (ap (λ z. after z f) d.is)) (k d.what d.is d.holds)
+
+  then_lands_by : (R : B → Type 0) → ((a : A) → o ≡ Gives a → Q a → Lands R (f a)) → Lands R (after o f)
+  then_lands_by R k = let d = landed Q o l in subst (Lands R) (sym (ap (λ z. after z f) d.is)) (k d.what d.is d.holds)
 
 -- what the code makes of the rest, behind an item that lands or gives something
+pub then_comes_or : {A B X : Type 0} (U : Type 0) (Q : A → Type 0) (o : Outcome A) (f : A → Outcome B) → Lands Q o → (r : Result X Stop) (S : X → B → Type 0) → ((a : A) → o ≡ Gives a → Q a → ComesOr U r (λ x w. Lands (S x) w) (f a)) → ComesOr U r (λ x w. Lands (S x) w) (after o f)
+then_comes_or U Q o f l (Ok x) S k = then_lands_by Q o f l (S x) k
+then_comes_or U Q o f l (Err s) S k = then_stops_or Q o f l U s k
+
 pub then_comes : {A B X : Type 0} (Q : A → Type 0) (o : Outcome A) (f : A → Outcome B) → Lands Q o → (r : Result X Stop) (S : X → B → Type 0) → ((a : A) → Q a → Comes r (λ x w. Lands (S x) w) (f a)) → Comes r (λ x w. Lands (S x) w) (after o f)
-then_comes Q o f l (Ok x) S k = then_lands Q o f l (S x) k
-then_comes Q o f l (Err s) S k = then_stops Q o f l s k
+then_comes Q o f l r S k = then_comes_or ⊥ Q o f l r S (λ a is h. k a h)
+
+pub gives_comes_or : {A B X : Type 0} (U : Type 0) (o : Outcome A) (f : A → Outcome B) (a : A) → o ≡ Gives a → (r : Result X Stop) (S : X → Outcome B → Type 0) → ComesOr U r S (f a) → ComesOr U r S (after o f)
+gives_comes_or U o f a e r S h = subst (λ z. ComesOr U r S z) (sym (ap (λ z. after z f) e)) h
 
 pub gives_comes : {A B X : Type 0} (o : Outcome A) (f : A → Outcome B) (a : A) → o ≡ Gives a → (r : Result X Stop) (S : X → Outcome B → Type 0) → Comes r S (f a) → Comes r S (after o f)
-gives_comes o f a e r S h = subst (Comes r S) (sym (ap (λ z. after z f) e)) h
+gives_comes o f a e r S h = gives_comes_or ⊥ o f a e r S h
+
+pub gives_stops_or : {A B : Type 0} (U : Type 0) (s : Stop) (o : Outcome A) (f : A → Outcome B) (a : A) → o ≡ Gives a → StopsOr U s (f a) → StopsOr U s (after o f)
+gives_stops_or U s o f a e h = subst (λ z. StopsOr U s z) (sym (ap (λ z. after z f) e)) h
 
 pub gives_stops : {A B : Type 0} (s : Stop) (o : Outcome A) (f : A → Outcome B) (a : A) → o ≡ Gives a → Stops s (f a) → Stops s (after o f)
-gives_stops s o f a e h = subst (Stops s) (sym (ap (λ z. after z f) e)) h
+gives_stops s o f a e h = gives_stops_or ⊥ s o f a e h
+
+-- where numbers run out on a part's way, they do on the whole's
+pub comes_too : {A X : Type 0} (U V : Type 0) (r : Result X Stop) (S : X → Outcome A → Type 0) (o : Outcome A) → (U → V) → ComesOr U r S o → ComesOr V r S o
+comes_too U V (Ok x) S o f h = h
+comes_too U V (Err s) S o f h = runs_out_too U V s o f h
+
+-- what never exhausts numbers
+pub comes_anyhow : {A X : Type 0} (U : Type 0) (r : Result X Stop) (S : X → Outcome A → Type 0) (o : Outcome A) → Comes r S o → ComesOr U r S o
+comes_anyhow U r S o h = comes_too ⊥ U r S o (λ x. absurd x) h
 
 -- what holds of the code's progress with any lists, holds of what follows it
 pub of_follower : (P : m.Progress → Type 0) (c : Progress) (g : m.Progress) → Follows c g → ((e : Extra) → IsFinite (heap_at e.support c.heap) → P (progress_at e c)) → P g
@@ -67,9 +90,35 @@ locals_follow e c d l finite same is = record {
   is = (λ i. record (progress_at e c) { locals = sym same i }) ∙ ap (progress_at e) (sym is);
 }
 
+ended_maps : {A : Type 0} (P Q : A → Type 0) (e : End A) → ((a : A) → P a → Q a) → Ended P e → Ended Q e
+ended_maps P Q Misfit f h = h
+ended_maps P Q (Failed n kind line) f h = h
+ended_maps P Q (Gave a) f h = f a h
+
+pub behind_maps : {A : Type 0} (P Q : A → Type 0) (o : Outcome A) → ((a : A) → P a → Q a) → Behind o P → Behind o Q
+behind_maps P Q o f h = ended_maps P Q o.end f h
+
+-- what is behind an item that gives this
+pub behind_gives : {A : Type 0} (o : Outcome A) (a : A) (Q : A → Type 0) → o ≡ Gives a → Q a → Behind o Q
+behind_gives o a Q is h = subst (λ z. Behind z Q) (sym is) h
+
+-- numbers are exhausted
+pub exhausts : {A : Type 0} (U : Type 0) (s : Stop) (o : Outcome A) → s ≡ Exhausted → U → StopsOr U s o
+exhausts U s o is u = subst (λ z. StopsOr U z o) (sym is) u
+
+pub silent_too : (U V : Type 0) (s : Stop) → (U → V) → IsSilentOr U s → IsSilentOr V s
+silent_too U V Misfit' f h = h
+silent_too U V (Fault kind line) f h = h
+silent_too U V (Wide w) f h = h
+silent_too U V Exhausted f h = f h
+silent_too U V OutOfMemory f h = tt
+
+pub silent_or : {A : Type 0} (U V : Type 0) (s : Stop) (o : Outcome A) → (U → V) → IsSilentOr U s → StopsOr V s o
+silent_or U V Misfit' o f h = absurd h
+silent_or U V (Fault kind line) o f h = absurd h
+silent_or U V (Wide w) o f h = absurd h
+silent_or U V Exhausted o f h = f h
+silent_or U V OutOfMemory o f h = tt
+
 pub silent : {A : Type 0} (s : Stop) (o : Outcome A) → IsSilent s → Stops s o
-silent Misfit' o h = absurd h
-silent (Fault kind line) o h = absurd h
-silent (Wide w) o h = absurd h
-silent Exhausted o h = tt
-silent OutOfMemory o h = tt
+silent s o h = silent_or ⊥ ⊥ s o (λ x. x) h

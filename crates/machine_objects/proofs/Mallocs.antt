@@ -1,5 +1,5 @@
 -- What a malloc comes to, from its choices.
-use Rattle.std.proofs.Common.{◌≡◌, ℕ, true, false, List, [], ◌∷◌, refl, sym, ap}
+use Rattle.std.proofs.Common.{◌≡◌, ℕ, true, false, List, [], ◌∷◌, inl, inr, refl, sym, ap, subst}
 use Rattle.object_types.specs.declared.references.Ref.{Ref}
 use Rattle.object_types.specs.declared.values.Value.{Value}
 use Rattle.object_types.specs.declared.values.Value.TheVariants.{Ref as Refers}
@@ -13,6 +13,7 @@ use Rattle.method.specs.Actions as m
 use Rattle.machine_values.specs.Spots.{heap_at}
 use Rattle.machine_objects.specs.declared.progress.Progress.{Progress}
 use Rattle.machine_objects.specs.Runs.{Extra, progress_at}
+use Rattle.machine_objects.specs.RunsOut.{NoReference, LacksFields, MallocRunsOut}
 
 module _ (p : Program) (at_ : Spot) (ty : ℕ) where
   pub malloc_misfit : (vs : List Value) (g : m.Progress) → vs ≡ [] → m.malloc p at_ ty vs g ≡ Unfit
@@ -26,3 +27,11 @@ module _ (p : Program) (at_ : Spot) (ty : ℕ) where
       ≡ Gives (record { value = Refers r; starting = m.heap_of (progress_at e old) (put (heap_at e.support old.heap) r (m.new_object at_.context.me (m.first_field (struct_of p ty)) rest)) })
   malloc_new vs rest c e old r es t is =
       rw (es, t) (λ i. Gives (record { value = Refers (sym is i); starting = m.heap_of (progress_at e old) (put (heap_at e.support old.heap) (sym is i) (m.new_object at_.context.me (m.first_field (struct_of p ty)) rest)) }))
+
+  -- where its numbers run out
+  module _ (vs rest : List Value) (c : Value) (g : m.Progress) (is : vs ≡ c ∷ rest) where
+    pub malloc_unnamed : NoReference g.heap ty → MallocRunsOut p ty vs g
+    malloc_unnamed none = subst (λ us. MallocRunsOut p ty us g) (sym is) (inl none)
+
+    pub malloc_unplaced : (first : ℕ) → first ≡ m.first_field (struct_of p ty) → LacksFields first rest → MallocRunsOut p ty vs g
+    malloc_unplaced first same lacks = subst (λ us. MallocRunsOut p ty us g) (sym is) (inr (subst (λ k. LacksFields k rest) same lacks))

@@ -16,7 +16,7 @@ use Rattle.machine_values.specs.declared.spot.Spot.{Spot}
 use Rattle.machine_values.specs.declared.stop.Stop.{Stop}
 use Rattle.machine_values.specs.declared.stop.Stop.TheVariants.{Misfit as Misfit', Fault, Wide, Exhausted, OutOfMemory}
 use Rattle.machine_values.specs.Spots.{heap_at, context_at, spot_at}
-use Rattle.machine_values.specs.Answers.{Comes}
+use Rattle.machine_values.specs.Answers.{Comes, ComesOr}
 use Rattle.machine_objects.specs.declared.progress.Progress.{Progress}
 use Rattle.machine_objects.specs.declared.progress.Place.{Place}
 use Rattle.machine_objects.specs.declared.progress.Place.TheVariants.{InLocal, InField}
@@ -79,13 +79,20 @@ pub record Leaves (c : Progress) (v : Value) (w : m.Valued) : Type 0 where
 abbrev pub Reading : Spot → Progress → (Program → x.Spot → m.Progress → ℕ → Type 0) → Type 0
 Reading at_ c P = (n : ℕ) (y : List Ref) (e : Extra) → IsFinite (heap_at e.support c.heap) → P at_.program.now (spot_at y at_) (progress_at e c) n
 
--- the code's item does what the definition's does
-abbrev pub Runs : Result (Unit {0}) Stop → Progress → Outcome m.Progress → Type 0
-Runs result c o = Comes result (λ u r. Lands (Follows c) r) o
+-- the code's item does what the definition's does, or numbers run out on its way
+abbrev pub RunsOr : Type 0 → Result (Unit {0}) Stop → Progress → Outcome m.Progress → Type 0
+RunsOr U result c o = ComesOr U result (λ u r. Lands (Follows c) r) o
 
--- the same of an item that gives a value
+-- the same of an item that never exhausts them
+abbrev pub Runs : Result (Unit {0}) Stop → Progress → Outcome m.Progress → Type 0
+Runs result c o = RunsOr ⊥ result c o
+
+-- the same of items that give a value
+abbrev pub RunsToOr : Type 0 → Result Value Stop → Progress → Outcome m.Valued → Type 0
+RunsToOr U result c o = ComesOr U result (λ v r. Lands (Leaves c v) r) o
+
 abbrev pub RunsTo : Result Value Stop → Progress → Outcome m.Valued → Type 0
-RunsTo result c o = Comes result (λ v r. Lands (Leaves c v) r) o
+RunsTo result c o = RunsToOr ⊥ result c o
 
 -- the code's place is the one that the left side comes to
 abbrev pub IsPlace : Result Place Stop → Outcome m.Place → Type 0
@@ -119,13 +126,16 @@ ended_value o = x.after o (λ w. x.Gives w.value)
 abbrev pub tries : List Ref → ℕ
 tries y = suc (length y)
 
--- the definitions say nothing of this stop
+-- memory is wanted, of which the definitions say nothing, or numbers are exhausted and U holds
+abbrev pub IsSilentOr : Type 0 → Stop → Type 0
+IsSilentOr U Misfit' = ⊥
+IsSilentOr U (Fault kind line) = ⊥
+IsSilentOr U (Wide w) = ⊥
+IsSilentOr U Exhausted = U
+IsSilentOr U OutOfMemory = Unit {0}
+
 abbrev pub IsSilent : Stop → Type 0
-IsSilent Misfit' = ⊥
-IsSilent (Fault kind line) = ⊥
-IsSilent (Wide w) = ⊥
-IsSilent Exhausted = Unit {0}
-IsSilent OutOfMemory = Unit {0}
+IsSilent stop = IsSilentOr ⊥ stop
 
 -- the code's objects are the references that the item's values are
 abbrev pub IsReferents : Result (Vec Ref Global) Stop → Outcome (List Value) → Type 0

@@ -1,6 +1,6 @@
 //! Objects: made, freed, unwrapped.
 
-ghost use Rattle.std.specs.Prelude.{◌≡◌, List, OnOk, IfOk, IfErr, IsTrue};
+ghost use Rattle.std.specs.Prelude.{◌≡◌, ◌≢◌, List, OnOk, IfOk, IfErr, IsTrue, IsFalse};
 ghost use Rattle.object_types.specs.declared.references.Ref.{Ref as Reference};
 ghost use Rattle.object_types.specs.Values.{is_zero_int};
 ghost use Rattle.object_types.specs.Heap.{IsFinite, nothing, put_at, fresh};
@@ -8,7 +8,8 @@ ghost use Rattle.object_types.specs.Lookups.{look_up};
 ghost use Rattle.method.specs.Tables.{struct_of};
 ghost use Rattle.method.specs.Actions.{first_field, malloc, free, unwrap_object, new_object};
 ghost use Rattle.machine_values.specs.Spots.{heap_at};
-ghost use Rattle.machine_objects.specs.Runs.{Reading, Runs, RunsTo, IsSilent};
+ghost use Rattle.machine_objects.specs.Runs.{Reading, Runs, RunsToOr, IsSilentOr};
+ghost use Rattle.machine_objects.specs.RunsOut.{LacksReference, LacksFields, MallocRunsOut};
 ghost use Rattle.machine_objects.specs.Vacancy.{no_status};
 
 use crate::progress::Progress;
@@ -34,7 +35,8 @@ fn has_no_status(h: &Heap, o: Ref) -> bool
 
 /// Whether nothing stands at the reference.
 pub fn is_vacant(h: &Heap, o: Ref) -> bool
-    ensures { IsTrue result → look_up h.now o ≡ nothing }
+    ensures vacant { IsTrue result → look_up h.now o ≡ nothing }
+    ensures occupied { IsFalse result → look_up h.now o ≢ nothing }
 {
     if !has_no_status(h, o) {
         return false;
@@ -61,7 +63,7 @@ pub fn is_vacant(h: &Heap, o: Ref) -> bool
 pub fn new_reference(h: &Heap, ty: u32) -> Result<Ref, Stop>
     ensures fresh { IfOk result (λ o. (y : List Reference) → IsFinite (heap_at y h.now) → o ≡ fresh (heap_at y h.now) ty) }
     ensures vacant { IfOk result (λ o. look_up h.now o ≡ nothing) }
-    ensures err { IfErr result IsSilent }
+    ensures err { IfErr result (IsSilentOr (LacksReference h.now ty)) }
 {
     let Some(o) = h.fresh(ty) else {
         return Err(Stop::Exhausted);
@@ -73,10 +75,13 @@ pub fn new_reference(h: &Heap, ty: u32) -> Result<Ref, Stop>
 }
 
 /// Writes the record of a new open object with these contents.
+///
+/// # Errors
+/// Exhausted where the number of a field is past 32 bits.
 fn place_object(h: &mut Heap, o: Ref, me: Ref, first: u32, contents: &[Value]) -> Result<(), Stop>
     requires { look_up h.old o ≡ nothing }
     ensures ok { OnOk result (look_up h.new ≡ put_at (look_up h.old) o (new_object me first contents.now)) }
-    ensures err { IfErr result IsSilent }
+    ensures err { IfErr result (IsSilentOr (LacksFields first contents.now)) }
 {
     h.set_status(o, Mode::Open, me)?;
     let mut field = first;
@@ -101,8 +106,13 @@ fn first_field(at: &Spot<'_>, ty: u32) -> u32
 }
 
 /// NULL, or a new open object with the contents that the event chose.
+///
+/// # Errors
+/// Misfit where there are no choices; Exhausted where no reference of the type is left, or the number of a field is past
+/// 32 bits.
 pub fn malloc(at: &Spot<'_>, ty: u32, progress: &mut Progress) -> Result<Value, Stop>
-    ensures { Reading at.now progress.old (λ p s g n. RunsTo result progress.new (malloc p s ty s.choices g)) }
+    ensures { Reading at.now progress.old (λ p s g n.
+        RunsToOr (MallocRunsOut p ty s.choices g) result progress.new (malloc p s ty s.choices g)) }
 {
     let Some((choice, contents)) = at.choices.split_first() else {
         return Err(Stop::Misfit);

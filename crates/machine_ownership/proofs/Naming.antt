@@ -45,7 +45,7 @@ pub works_weighed : {X A : Type 0} (stop : Stop) (items whole : Option Overflow)
 works_weighed Misfit items whole P a same t = absurd t
 works_weighed (Fault kind line) items whole P a same t = absurd t
 works_weighed (Wide w) items whole P a same t = ap (λ v. or_else v None) (sym same ∙ t)
-works_weighed Exhausted items whole P a same t = tt
+works_weighed Exhausted items whole P a same t = t
 works_weighed OutOfMemory items whole P a same t = tt
 
 module _ (p : Program) (es : List Spec) (s : Scene) where

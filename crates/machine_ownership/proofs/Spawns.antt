@@ -74,7 +74,7 @@ weighed_stops : {A B : Type 0} (s : Stop) (w : Option Overflow) (a : A) (b : B) 
 weighed_stops {A} Misfit w a b t = let ends = ap (λ (o : Outcome A). o.end) t in absurd (cc (ends))
 weighed_stops {A} (Faulted kind line) w a b t = let ends = ap (λ (o : Outcome A). o.end) t.1 in absurd (cc (ends))
 weighed_stops (Wide v) w a b t = t
-weighed_stops Exhausted w a b t = tt
+weighed_stops Exhausted w a b t = t
 weighed_stops OutOfMemory w a b t = tt
 
 no_weight : (w : Option Overflow) → or_else w None ≡ None → w ≡ None

@@ -10,11 +10,15 @@ use Rattle.machine_values.specs.declared.spot.Spot.{Spot as CodeSpot}
 use Rattle.machine_values.specs.declared.stop.Stop.{Stop}
 use Rattle.machine_values.specs.Answers.{Comes}
 use Rattle.machine_objects.specs.declared.progress.Progress.{Progress as CodeProgress}
-use Rattle.machine_objects.specs.Runs.{Reading, Runs}
+use Rattle.machine_objects.specs.Runs.{Reading, Runs, RunsOr}
 
 -- the code goes from the one progress to the other as the definition's item does, whatever number its first check has
 abbrev pub Performs : Result (Unit {0}) Stop → CodeSpot → CodeProgress → CodeProgress → (Program → Spot → ℕ → Progress → Outcome Progress) → Type 0
 Performs result at_ first last item = Reading at_ first (λ p s g n. Runs result last (item p s n g))
+
+-- the same, unless numbers run out, as they do at the item
+abbrev pub PerformsOr : Result (Unit {0}) Stop → CodeSpot → CodeProgress → CodeProgress → (Program → Spot → ℕ → Progress → Type 0) → (Program → Spot → ℕ → Progress → Outcome Progress) → Type 0
+PerformsOr result at_ first last runs_out item = Reading at_ first (λ p s g n. RunsOr (runs_out p s n g) result last (item p s n g))
 
 -- the thread owns it closed, and may write it: what may become a member, or pass to another thread
 abbrev pub is_owned : Spot → Heap → Ref → Bool

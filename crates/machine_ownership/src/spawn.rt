@@ -9,7 +9,8 @@ ghost use Rattle.spec_eval.specs.Scenes.{scene_of};
 ghost use Rattle.machine_values.specs.Spots.{heap_at};
 ghost use Rattle.machine_values.specs.Items.{OnHeaps};
 ghost use Rattle.machine_ownership.specs.Callees.{IsEntered};
-ghost use Rattle.machine_ownership.specs.Owned.{Performs};
+ghost use Rattle.machine_ownership.specs.Owned.{PerformsOr};
+ghost use Rattle.machine_ownership.specs.RunsOut.{NoThread};
 ghost use Rattle.machine_ownership.specs.Threads.{ArePassing, IsLeastIdle, NoneIdle};
 
 use crate::items::is_owned;
@@ -163,7 +164,8 @@ pub fn spawn(
     args: &[Value],
     progress: &mut Progress,
 ) -> Result<(), Stop>
-    ensures { Performs result at.now progress.old progress.new (λ p s. spawn p s number (Some function.now) args.now) }
+    ensures { PerformsOr result at.now progress.old progress.new
+        (λ p s n g. NoThread g.supply g.heap) (λ p s. spawn p s number (Some function.now) args.now) }
 {
     let items = passing_items(alloc, at, &function.writes, args, &progress.heap)?;
     let thread = new_thread(&progress.heap, progress.next_thread)?;

@@ -5,7 +5,7 @@ use Rattle.method.specs.Expressions.{End, Misfit, Failed, Gave, Outcome, Gives, 
 use Rattle.spec_eval.specs.Answers.{operands}
 use Rattle.machine_values.specs.declared.stop.Stop.{Stop}
 use Rattle.machine_values.specs.declared.stop.Stop.TheVariants.{Misfit as NotEnabled, Fault as Faulted, Wide, Exhausted, OutOfMemory}
-use Rattle.machine_values.specs.Answers.{Stops}
+use Rattle.machine_values.specs.Answers.{Stops, StopsOr}
 
 over_weighed : {A : Type 0} (w : Option Overflow) (x : Overflow) (o : Outcome A) → w ≡ Some x → (weighed w o).overflow ≡ Some x
 over_weighed w x o e = ap (λ v. or_else v o.overflow) e
@@ -16,12 +16,27 @@ over_goes w (Failed n kind line) x f h = h
 over_goes w (Gave a) x f h = over_weighed w x (f a) h
 
 -- what stops, stops whatever would come behind it
+pub stops_or_after : {A B : Type 0} (U : Type 0) (s : Stop) (o : Outcome A) (f : A → Outcome B) → StopsOr U s o → StopsOr U s (after o f)
+stops_or_after U NotEnabled o f h = ap (λ z. after z f) h
+stops_or_after U (Faulted kind line) o f h = (h.0, ap (λ z. after z f) h.1)
+stops_or_after U (Wide w) o f h = over_goes o.overflow o.end (operands w) f h
+stops_or_after U Exhausted o f h = h
+stops_or_after U OutOfMemory o f h = tt
+
 pub stops_after : {A B : Type 0} (s : Stop) (o : Outcome A) (f : A → Outcome B) → Stops s o → Stops s (after o f)
-stops_after NotEnabled o f h = ap (λ z. after z f) h
-stops_after (Faulted kind line) o f h = (h.0, ap (λ z. after z f) h.1)
-stops_after (Wide w) o f h = over_goes o.overflow o.end (operands w) f h
-stops_after Exhausted o f h = tt
-stops_after OutOfMemory o f h = tt
+stops_after s o f h = stops_or_after ⊥ s o f h
+
+-- where numbers run out on a part's way, they do on the whole's
+pub runs_out_too : {A : Type 0} (U V : Type 0) (s : Stop) (o : Outcome A) → (U → V) → StopsOr U s o → StopsOr V s o
+runs_out_too U V NotEnabled o f h = h
+runs_out_too U V (Faulted kind line) o f h = h
+runs_out_too U V (Wide w) o f h = h
+runs_out_too U V Exhausted o f h = f h
+runs_out_too U V OutOfMemory o f h = tt
+
+-- what never exhausts numbers
+pub anyhow : {A : Type 0} (U : Type 0) (s : Stop) (o : Outcome A) → Stops s o → StopsOr U s o
+anyhow U s o h = runs_out_too ⊥ U s o (λ x. absurd x) h
 
 or_else_assoc : (a b c : Option Overflow) → or_else a (or_else b c) ≡ or_else (or_else a b) c
 or_else_assoc None b c = refl

@@ -18,23 +18,31 @@ abbrev pub stop_of : EvalFault → Stop
 stop_of (WideValue w) = Wide w
 stop_of NoMemory = OutOfMemory
 
--- The item comes to nothing for this reason. Of numbers that are exhausted, and of want of memory, the definitions say nothing.
+-- The item comes to nothing for this reason, or, where the code's numbers are exhausted, U holds: that they run out on the item's way. Of want of memory the definitions say nothing.
+abbrev pub StopsOr : {A : Type 0} → Type 0 → Stop → Outcome A → Type 0
+StopsOr U NotEnabled o = o ≡ Unfit
+StopsOr U (Faulted kind line) o = (n : ℕ) × (o ≡ Fault n kind line)
+StopsOr U (Wide w) o = o.overflow ≡ Some (operands w)
+StopsOr U Exhausted o = U
+StopsOr U OutOfMemory o = Unit {0}
+
+-- the same of an item that takes no number: it never exhausts them
 abbrev pub Stops : {A : Type 0} → Stop → Outcome A → Type 0
-Stops NotEnabled o = o ≡ Unfit
-Stops (Faulted kind line) o = (n : ℕ) × (o ≡ Fault n kind line)
-Stops (Wide w) o = o.overflow ≡ Some (operands w)
-Stops Exhausted o = Unit {0}
-Stops OutOfMemory o = Unit {0}
+Stops stop o = StopsOr ⊥ stop o
 
 -- the item comes to this value, and no value of an annotation on the way leaves 128 bits; or it comes to nothing
 abbrev pub Yields : {A : Type 0} → Result A Stop → Outcome A → Type 0
 Yields (Ok a) o = o ≡ Gives a
 Yields (Err stop) o = Stops stop o
 
--- the same, where the value is related to what the item comes to
+-- the same, where the value is related to what the item comes to, and where numbers may run out
+abbrev pub ComesOr : {X A : Type 0} → Type 0 → Result X Stop → (X → Outcome A → Type 0) → Outcome A → Type 0
+ComesOr U (Ok x) R o = R x o
+ComesOr U (Err stop) R o = StopsOr U stop o
+
+-- the same of an item that never exhausts them
 abbrev pub Comes : {X A : Type 0} → Result X Stop → (X → Outcome A → Type 0) → Outcome A → Type 0
-Comes (Ok x) R o = R x o
-Comes (Err stop) R o = Stops stop o
+Comes result R o = ComesOr ⊥ result R o
 
 -- the exact result is this number, or leaves 128 bits as it does
 abbrev pub IsExact : Result ℤ WideResult → ℤ → Type 0

@@ -43,7 +43,7 @@ pub never_stops : {A B : Type 0} (s : Stop) (a : A) (o : Outcome B) → Stops s 
 never_stops Misfit a o h = let e = ap (λ z. z.end) h in cc
 never_stops (Fault kind line) a o h = let e = ap (λ z. z.end) h.1 in cc
 never_stops (Wide w) a o h = cc
-never_stops Exhausted a o h = tt
+never_stops Exhausted a o h = h
 never_stops OutOfMemory a o h = tt
 
 pub gave_same : {A : Type 0} (a b : A) → Gives a ≡ Gives b → a ≡ b

@@ -10,7 +10,7 @@ use Rattle.method.specs.Expressions.{End, Misfit, Failed, Gave, Outcome, Unfit, 
 use Rattle.method.specs.Machine as m
 use Rattle.machine_values.specs.declared.stop.Stop.{Stop}
 use Rattle.machine_values.specs.declared.stop.Stop.TheVariants as stop
-use Rattle.machine_values.specs.Answers.{Stops}
+use Rattle.machine_values.specs.Answers.{StopsOr}
 use Rattle.machine_values.specs.Spots.{heap_at}
 use Rattle.machine_objects.specs.Runs.{Ended, Lands}
 use Rattle.ref_machine.specs.declared.state.State.{State}
@@ -26,6 +26,7 @@ use Rattle.method.specs.Actions.{Fresh}
 use Rattle.machine_objects.specs.Runs.{contexts_at}
 use Rattle.ref_machine.specs.Plans.{AreThreads, new_thread, turn_in, Planned, Committed, Answers, heap_or}
 use Rattle.ref_machine.specs.Answers.{Steps}
+use Rattle.ref_machine.specs.RunsOut.{ThreadRunsOut, StepRunsOut}
 
 record Landed {A : Type 0} (Q : A → Type 0) (o : Outcome A) : Type 0 where
   what : A
@@ -86,12 +87,12 @@ module _ (p : Program) (s : m.State) (e : m.Event) where
         let g = landed (Planned plan p s e.thread c) turned l in
         (reached g.what, ap (λ (o : Outcome m.Turn). m.answer_of p s e.thread o.end) g.is ∙ ap (m.Next (reached g.what)) g.holds.line, ap (λ (o : Outcome m.Turn). o.overflow) g.is, stands_behind g.what g.holds)
 
-  pub stops : (c : State) (z : Stop) → Stops z turned → Answers (Err z) p s e c
+  pub stops : (c : State) (z : Stop) → StopsOr (StepRunsOut p s e) z turned → Answers (Err z) p s e c
   unfolding m.step
   stops c stop.Misfit h = (ap (λ (o : Outcome m.Turn). m.answer_of p s e.thread o.end) h, ap (λ (o : Outcome m.Turn). o.overflow) h)
   stops c (stop.Fault kind line) h = (ap (λ (o : Outcome m.Turn). m.answer_of p s e.thread o.end) h.1, ap (λ (o : Outcome m.Turn). o.overflow) h.1)
   stops c (stop.Wide w) h = h
-  stops c stop.Exhausted h = tt
+  stops c stop.Exhausted h = h
   stops c stop.OutOfMemory h = tt
 
 -- a plan, from the turn
@@ -103,13 +104,13 @@ record All (t : Turn) (fs : List m.Activation) (h : Heap) (g : m.Turn) : Type 0 
   started : g.started ≡ contexts_at lists t.started.items
   line : g.line ≡ t.line
 
-all_of : (fs : List m.Activation) (t : Turn) (h : Heap) (o : Outcome m.Turn) → TurnsAll (Ok t) fs h o → Lands (All t fs h) o
-all_of [] t h o l = absurd l
-all_of (a ∷ below) t h o l = lands_also (Turned t a (behind a.code) below h) (All t (a ∷ below) h) o l (λ g w. record { heap = w.heap; frames = w.frames; lists = w.lists; started = w.started; line = w.line })
+all_of : (U : Type 0) (fs : List m.Activation) (t : Turn) (h : Heap) (o : Outcome m.Turn) → TurnsAll U (Ok t) fs h o → Lands (All t fs h) o
+all_of U [] t h o l = absurd l
+all_of U (a ∷ below) t h o l = lands_also (Turned t a (behind a.code) below h) (All t (a ∷ below) h) o l (λ g w. record { heap = w.heap; frames = w.frames; lists = w.lists; started = w.started; line = w.line })
 
-pub turns_stop : (fs : List m.Activation) (z : Stop) (h : Heap) (o : Outcome m.Turn) → TurnsAll (Err z) fs h o → Stops z o
-turns_stop [] z h o s = s
-turns_stop (a ∷ below) z h o s = s
+pub turns_stop : (U : Type 0) (fs : List m.Activation) (z : Stop) (h : Heap) (o : Outcome m.Turn) → TurnsAll U (Err z) fs h o → StopsOr U z o
+turns_stop U [] z h o s = s
+turns_stop U (a ∷ below) z h o s = s
 
 module _ (p : Program) (s : m.State) (c : State) (t : ℕ) (choices : List Value) (stands : Stands s c) where
   pub no_thread : position (has t) c.threads.items ≡ None → turn_in p s t choices ≡ Unfit
@@ -121,16 +122,21 @@ module _ (p : Program) (s : m.State) (c : State) (t : ℕ) (choices : List Value
   pub finite : IsFinite (heap_at support c.heap)
   finite = subst IsFinite (heap_stands s c stands) stands.finite
 
-  pub turned_in : (r : Result Turn Stop) (next : ℕ) → next ≡ m.next_number (map thread_of c.threads.items) → let fs = m.frames_of t s.threads in TurnsAll r fs (heap_at support c.heap) (m.thread_turn p (Fresh next) choices fs (heap_at support c.heap)) → TurnsAll r fs s.heap (turn_in p s t choices)
+  -- the numbers run out at the next item of these functions
+  abbrev pub turn_out : List m.Activation → Type 0
+  turn_out fs = ThreadRunsOut p (Fresh (m.next_number s.threads)) choices fs s.heap
+
+  pub turned_in : (r : Result Turn Stop) (next : ℕ) → next ≡ m.next_number (map thread_of c.threads.items) → let fs = m.frames_of t s.threads in TurnsAll (ThreadRunsOut p (Fresh next) choices fs (heap_at support c.heap)) r fs (heap_at support c.heap) (m.thread_turn p (Fresh next) choices fs (heap_at support c.heap)) → TurnsAll (turn_out fs) r fs s.heap (turn_in p s t choices)
   turned_in r next e h =
       let fs = m.frames_of t s.threads in
       let eh = sym (heap_stands s c stands) in
       let en : next ≡ m.next_number s.threads = e ∙ sym (next_same s.threads c.threads.items (threads_stand s c stands)) in
-      subst (λ (k : Heap). TurnsAll r fs k (m.thread_turn p (Fresh (m.next_number s.threads)) choices fs k)) eh (subst (λ n. TurnsAll r fs (heap_at support c.heap) (m.thread_turn p (Fresh n) choices fs (heap_at support c.heap))) en h)
+      subst (λ (k : Heap). TurnsAll (ThreadRunsOut p (Fresh (m.next_number s.threads)) choices fs k) r fs k (m.thread_turn p (Fresh (m.next_number s.threads)) choices fs k)) eh
+      (subst (λ n. TurnsAll (ThreadRunsOut p (Fresh n) choices fs (heap_at support c.heap)) r fs (heap_at support c.heap) (m.thread_turn p (Fresh n) choices fs (heap_at support c.heap))) en h)
 
-  pub planned : (turn : Turn) (i : ℕ) (old : Thread) (vs : Vec Thread Global) → slice_get c.threads.items i ≡ Some old → Place t s.threads c.threads.items i old → map thread_of vs.items ≡ map (new_thread p) turn.started.items → TurnsAll (Ok turn) (m.frames_of t s.threads) s.heap (turn_in p s t choices) → Lands (Planned (record { place = i; heap = turn.heap; frames = turn.frames; threads = vs; line = turn.line }) p s t c) (turn_in p s t choices)
-  planned turn i old vs is place new l =
-      lands_also (All turn (m.frames_of t s.threads) s.heap) _ (turn_in p s t choices) (all_of (m.frames_of t s.threads) turn s.heap (turn_in p s t choices) l) (λ g w. record {
+  pub planned : (U : Type 0) (turn : Turn) (i : ℕ) (old : Thread) (vs : Vec Thread Global) → slice_get c.threads.items i ≡ Some old → Place t s.threads c.threads.items i old → map thread_of vs.items ≡ map (new_thread p) turn.started.items → TurnsAll U (Ok turn) (m.frames_of t s.threads) s.heap (turn_in p s t choices) → Lands (Planned (record { place = i; heap = turn.heap; frames = turn.frames; threads = vs; line = turn.line }) p s t c) (turn_in p s t choices)
+  planned U turn i old vs is place new l =
+      lands_also (All turn (m.frames_of t s.threads) s.heap) _ (turn_in p s t choices) (all_of U (m.frames_of t s.threads) turn s.heap (turn_in p s t choices) l) (λ g w. record {
         heap = w.heap;
         old = old;
         is = is;

@@ -1,5 +1,5 @@
 -- Threads by their numbers, in the code and in method.
-use Rattle.std.proofs.Common.{◌≡◌, ℕ, zero, suc, ◌+◌, ◌==◌, ◌<◌, ◌≤◌, max, Bool, true, false, cond, ◌||◌, List, [], ◌∷◌, map, length, get_or, take, drop, length-drop, ◌-◌, position, not, nat_lt, Option, None, Some, slice_set, slice_get, arith, add-one, refl, ap, sym, ◌∙◌}
+use Rattle.std.proofs.Common.{◌≡◌, ℕ, zero, suc, ◌+◌, ◌==◌, ◌<◌, ◌≤◌, max, Bool, true, false, cond, ◌||◌, List, [], ◌∷◌, map, length, get_or, take, drop, length-drop, ◌-◌, position, not, nat_lt, Option, None, Some, slice_set, slice_get, inl, inr, arith, add-one, drop-cons, refl, ap, sym, subst, ◌∙◌}
 use Rattle.std.specs.List.{position_or_len}
 use Rattle.std.proofs.lemmas.List.{take_all}
 use Rattle.std.proofs.lemmas.List.Quantifiers.{position-Some}
@@ -9,6 +9,8 @@ use Rattle.object_types.specs.Sets.{some}
 use Rattle.method.specs.Machine as m
 use Rattle.ref_machine.specs.declared.state.Thread.{Thread}
 use Rattle.ref_machine.specs.States.{bare_frame, bare_thread, thread_of}
+use Rattle.std.proofs.lemmas.Bool.{eqb-true}
+use Rattle.ref_machine.specs.RunsOut.{IsTwice}
 use Rattle.ref_machine.specs.Turns.{AreFrames}
 use Rattle.ref_machine.specs.Plans.{AreThreads, new_thread}
 use Rattle.object_types.specs.declared.references.Ref.{Ref}
@@ -95,6 +97,23 @@ module _ (t : ℕ) where
             ∙ (λ j. f.same j ∷ more.put d same fs fit j);
       }
 
+  same_some : (cs : List Thread) (ths : List m.Thread) → AreThreads ths cs → some (λ u. u.number == t) ths ≡ some has cs
+  same_some [] ths are = ap (some (λ u. u.number == t)) (no_threads ths are)
+  same_some (c ∷ cs) ths are =
+      let f = first ths c cs are in
+      ap (some (λ u. u.number == t)) f.is ∙ λ i. ((f.same i).number == t) || same_some cs f.rest f.more i
+
+  -- a thread with the number, and another one behind it
+  pub twice : (cs : List Thread) (i : ℕ) (d : Thread) (ths : List m.Thread) → AreThreads ths cs → i < length cs → has (get_or cs i d) ≡ true → some has (drop (suc i) cs) ≡ true → IsTwice t ths
+  twice [] i d ths are within hit later = absurd (omega (arith, within))
+  twice (c ∷ cs) zero d ths are within hit later =
+      let f = first ths c cs are in
+      let here : f.th.number ≡ t = ap (λ (z : m.Thread). z.number) f.same ∙ eqb-true c.number t hit in
+      subst (IsTwice t) (sym f.is) (inl (here, same_some cs f.rest f.more ∙ later))
+  twice (c ∷ cs) (suc i) d ths are within hit later =
+      let f = first ths c cs are in
+      subst (IsTwice t) (sym f.is) (inr (twice cs i d f.rest f.more (omega (arith, within)) hit later))
+
   -- where no thread has the number
   pub no_place : (cs : List Thread) (ths : List m.Thread) → AreThreads ths cs → some has cs ≡ false → m.frames_of t ths ≡ []
   no_place [] ths are none = ap (m.frames_of t) (no_threads ths are)
@@ -152,3 +171,17 @@ place_at t cs ths i old are at_ is later =
 -- a list from a place on, as the code's range
 pub rest_whole : (xs : List Thread) (n : ℕ) → take (length xs - n) (drop n xs) ≡ drop n xs
 rest_whole xs n = take_all (length xs - n) (drop n xs) (omega (arith, length-drop n xs))
+
+-- where a search finds a thread, and another behind it
+pub twice_at : (t : ℕ) (cs : List Thread) (ths : List m.Thread) (i : ℕ) → AreThreads ths cs → position (has t) cs ≡ Some i → some (has t) (drop (i + 1) cs) ≡ true → IsTwice t ths
+twice_at t [] ths i are at_ later = let e : false ≡ true = ap (λ n. some (has t) (drop n [])) (sym (add-one i)) ∙ later in cc
+twice_at t (c ∷ cs) ths i are at_ later =
+    let f = position-Some (has t) (c ∷ cs) i c at_ in
+    twice t (c ∷ cs) i c ths are f.0 f.1 (ap (λ n. some (has t) (drop n (c ∷ cs))) (sym (add-one i)) ∙ later)
+
+-- a thread with the last number
+pub last_number : (cs : List Thread) (i : ℕ) (d : Thread) (next : ℕ) → i < length cs → 4294967296 ≤ (get_or cs i d).number + 1 → max next (m.next_number (map thread_of (drop i cs))) ≡ m.next_number (map thread_of cs) → 4294967296 ≤ m.next_number (map thread_of cs)
+last_number cs i d next within high so_far =
+    let rest = m.next_number (map thread_of (drop (suc i) cs)) in
+    let here : m.next_number (map thread_of (drop i cs)) ≡ max ((get_or cs i d).number + 1) rest = ap (λ xs. m.next_number (map thread_of xs)) (drop-cons cs i d within) in
+    omega (arith, high, so_far, here)

@@ -16,7 +16,7 @@ use Rattle.machine_values.specs.Spots.{heap_at, context_at, spot_at}
 use Rattle.machine_values.specs.Answers.{Stops, Passes, verdict}
 use Rattle.machine_values.proofs.Verdicts.{checks_pass}
 use Rattle.machine_objects.specs.declared.progress.Progress.{Progress}
-use Rattle.machine_objects.specs.Runs.{Extra, progress_at, contexts_at, Follows, Lands, Reading, Runs}
+use Rattle.machine_objects.specs.Runs.{Extra, progress_at, contexts_at, Follows, Lands, Reading, Runs, RunsOr}
 use Rattle.machine_objects.proofs.Landing.{then_lands, of_follower}
 use Rattle.ref_machine.specs.declared.state.Activation.{Activation}
 use Rattle.ref_machine.specs.declared.state.Remaining.{Remaining}
@@ -127,9 +127,19 @@ module _ (p : Program) (t : Turn) (a : m.Activation) (code : List m.Remaining) (
 
 -- an action that begins
 module _ (result : Result (Unit {0}) Stop) (c old : Progress) (at_ : CodeSpot) (F : Program → Spot → act.Progress → ℕ → Outcome act.Progress) (p : Program) (x : CodeContext) (choices : List Value) (line : ℕ) (heap : List Stored) (l : List Value) (next : ℕ) where
+  -- where numbers may run out
+  pub reads_or : (U : Program → Spot → act.Progress → ℕ → Type 0) →
+      Reading at_ old (λ p s g n. RunsOr (U p s g n) result c (F p s g n)) → at_.program.now ≡ p → ((z : List Ref) → spot_at z at_ ≡ act.spot (context_at z x) choices line) → IsStarting old heap l next →
+      (z y : List Ref) → IsFinite (heap_at y heap) →
+      let s = act.spot (context_at z x) choices line in
+      let g = act.starting (heap_at y heap) l (act.Fresh next) in
+      RunsOr (U p s g 0) result c (F p s g 0)
+  reads_or U h ep es is z y finite =
+      let g = act.starting (heap_at y heap) l (act.Fresh next) in
+      at_spot (λ q s. RunsOr (U q s g 0) result c (F q s g 0)) at_.program.now p (spot_at z at_) (act.spot (context_at z x) choices line) ep (es z)
+      (subst (λ g. RunsOr (U at_.program.now (spot_at z at_) g 0) result c (F at_.program.now (spot_at z at_) g 0)) (is.is y) (h 0 z (plain y) (subst (λ s. IsFinite (heap_at y s)) (sym is.heap) finite)))
+
   pub reads :
       Reading at_ old (λ p s g n. Runs result c (F p s g n)) → at_.program.now ≡ p → ((z : List Ref) → spot_at z at_ ≡ act.spot (context_at z x) choices line) → IsStarting old heap l next →
       (z y : List Ref) → IsFinite (heap_at y heap) → Runs result c (F p (act.spot (context_at z x) choices line) (act.starting (heap_at y heap) l (act.Fresh next)) 0)
-  reads h ep es is z y finite =
-      at_spot (λ q s. Runs result c (F q s (act.starting (heap_at y heap) l (act.Fresh next)) 0)) at_.program.now p (spot_at z at_) (act.spot (context_at z x) choices line) ep (es z)
-      (subst (λ g. Runs result c (F at_.program.now (spot_at z at_) g 0)) (is.is y) (h 0 z (plain y) (subst (λ s. IsFinite (heap_at y s)) (sym is.heap) finite)))
+  reads h ep es is z y finite = reads_or (λ p s g n. ⊥) h ep es is z y finite

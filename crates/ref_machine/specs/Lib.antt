@@ -4,3 +4,4 @@ pub mod Scenes
 pub mod Starting
 pub mod States
 pub mod Turns
+pub mod RunsOut

@@ -9,7 +9,7 @@ use Rattle.method.specs.Machine as m
 use Rattle.machine_values.specs.declared.spot.Context.{Context}
 use Rattle.machine_values.specs.declared.stop.Stop.{Stop}
 use Rattle.machine_values.specs.declared.stop.Stop.TheVariants.{Misfit, Fault, Wide, Exhausted, OutOfMemory}
-use Rattle.machine_values.specs.Answers.{Comes}
+use Rattle.machine_values.specs.Answers.{ComesOr}
 use Rattle.machine_values.specs.Spots.{context_at}
 use Rattle.machine_objects.specs.Runs.{Lands}
 use Rattle.ref_machine.specs.declared.state.Thread.{Thread}
@@ -19,6 +19,7 @@ use Rattle.ref_machine.specs.declared.step.Stepped.TheVariants as stepped
 use Rattle.ref_machine.specs.States.{bare_frame, bare_thread, thread_of}
 use Rattle.ref_machine.specs.Turns.{AreFrames, Changed, IsHeap, Settled}
 use Rattle.ref_machine.specs.Answers.{Steps}
+use Rattle.ref_machine.specs.RunsOut.{StepRunsOut}
 
 -- these are the code's threads, up to the lists beside the heaps at their functions' entries
 abbrev pub AreThreads : List m.Thread → List Thread → Type 0
@@ -43,8 +44,9 @@ pub record Planned (plan : Plan) (p : Program) (s : m.State) (t : ℕ) (c : Stat
   pub new : AreThreads (m.new_threads p g.started) plan.threads.items
   pub line : g.line ≡ plan.line
 
+-- the turn of the thread with this number, with these choices, is planned so, unless numbers run out
 abbrev pub Plans : Result Plan Stop → Program → m.State → ℕ → List Value → State → Type 0
-Plans result p s t choices c = Comes result (λ plan r. Lands (Planned plan p s t c) r) (turn_in p s t choices)
+Plans result p s t choices c = ComesOr (StepRunsOut p s (record { thread = t; choices = choices })) result (λ plan r. Lands (Planned plan p s t c) r) (turn_in p s t choices)
 
 abbrev pub heap_or : List Stored → Option (List Stored) → List Stored
 heap_or h None = h
@@ -60,11 +62,11 @@ pub record Committed (plan : Plan) (c d : State) : Type 0 where
   pub frames : Settled plan.frames old.frames.items new.frames.items
   pub threads : d.threads.items ≡ slice_set c.threads.items plan.place new ++ plan.threads.items
 
--- what a turn comes to is method's step; of a stop of which the definitions say nothing, nothing is said
+-- what a turn comes to is method's step, unless numbers run out at it; of want of memory nothing is said
 abbrev pub Answers : Result ℕ Stop → Program → m.State → m.Event → State → Type 0
 Answers (Ok line) p s e c = Steps (stepped.Next line) p s e c
 Answers (Err Misfit) p s e c = Steps stepped.NotEnabled p s e c
 Answers (Err (Fault kind line)) p s e c = Steps (stepped.Fault kind line) p s e c
 Answers (Err (Wide w)) p s e c = Steps (stepped.Wide w) p s e c
-Answers (Err Exhausted) p s e c = Unit {0}
+Answers (Err Exhausted) p s e c = StepRunsOut p s e
 Answers (Err OutOfMemory) p s e c = Unit {0}

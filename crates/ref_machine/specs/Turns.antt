@@ -24,7 +24,7 @@ use Rattle.method.specs.Machine as m
 use Rattle.machine_values.specs.declared.spot.Context.{Context}
 use Rattle.machine_values.specs.declared.stop.Stop.{Stop}
 use Rattle.machine_values.specs.Spots.{heap_at, context_at}
-use Rattle.machine_values.specs.Answers.{Comes}
+use Rattle.machine_values.specs.Answers.{Comes, ComesOr}
 use Rattle.machine_objects.specs.Runs.{Lands, Follows, contexts_at, Extra, progress_at, place_of, IsPlace}
 use Rattle.machine_objects.specs.declared.progress.Place.{Place}
 use Rattle.machine_objects.specs.declared.progress.Progress.{Progress}
@@ -35,6 +35,7 @@ use Rattle.ref_machine.specs.declared.turn.Frames.{Frames}
 use Rattle.ref_machine.specs.declared.turn.Frames.TheVariants.{Goes, Calls, Returns}
 use Rattle.ref_machine.specs.declared.turn.Turn.{Turn}
 use Rattle.ref_machine.specs.States.{left_of, ahead, bare_frame, frame_at, frame_of, frames_of}
+use Rattle.ref_machine.specs.RunsOut.{ThreadRunsOut}
 
 -- these are the code's functions, up to the lists beside the heaps at their entries
 abbrev pub AreFrames : List m.Activation → List Activation → Type 0
@@ -124,14 +125,18 @@ pub record IsStoredTurn (t : Turn) (n : ℕ) (c : Progress) : Type 0 where
   pub started : t.started ≡ c.started
   pub line : t.line ≡ n
 
--- the code comes to the turn that the definition comes to
+-- the code comes to the turn that the definition comes to, or numbers run out on its way
+abbrev pub TurnsOr : Type 0 → Result Turn Stop → m.Activation → List m.Remaining → List m.Activation → Heap → Outcome m.Turn → Type 0
+TurnsOr U result a code below h o = ComesOr U result (λ t r. Lands (Turned t a code below h) r) o
+
+-- the same of a turn that never exhausts them
 abbrev pub TurnsTo : Result Turn Stop → m.Activation → List m.Remaining → List m.Activation → Heap → Outcome m.Turn → Type 0
-TurnsTo result a code below h o = Comes result (λ t r. Lands (Turned t a code below h) r) o
+TurnsTo result a code below h o = TurnsOr ⊥ result a code below h o
 
 -- the same of all functions of a thread
-abbrev pub TurnsAll : Result Turn Stop → List m.Activation → Heap → Outcome m.Turn → Type 0
-TurnsAll result [] h o = Comes result (λ t r. ⊥) o
-TurnsAll result (a ∷ below) h o = TurnsTo result a (behind a.code) below h o
+abbrev pub TurnsAll : Type 0 → Result Turn Stop → List m.Activation → Heap → Outcome m.Turn → Type 0
+TurnsAll U result [] h o = ComesOr U result (λ t r. ⊥) o
+TurnsAll U result (a ∷ below) h o = TurnsOr U result a (behind a.code) below h o
 
 -- a function that runs here, with this list beside the heap at its entry, and this code
 abbrev pub running : List Ref → Here → List m.Remaining → m.Activation
@@ -220,15 +225,22 @@ ending next p a code below h = m.turn_of p (Fresh next) [] a [] below h
 abbrev pub TurnsAs : Result Turn Stop → Here → (Program → m.Activation → List m.Remaining → List m.Activation → Heap → Outcome m.Turn) → Type 0
 TurnsAs result here o = OnTurn here (λ p a code below h. TurnsTo result a code below h (o p a code below h))
 
+-- the same, unless numbers run out, as they do at the item
+abbrev pub TurnsAsOr : Result Turn Stop → Here → (Program → m.Activation → Heap → Type 0) → (Program → m.Activation → List m.Remaining → List m.Activation → Heap → Outcome m.Turn) → Type 0
+TurnsAsOr result here runs_out o = OnTurn here (λ p a code below h. TurnsOr (runs_out p a h) result a code below h (o p a code below h))
+
 -- the same, where these functions stand below
 abbrev pub ReturnsAs : Result Turn Stop → Here → List Activation → (Program → m.Activation → List m.Remaining → List m.Activation → Heap → Outcome m.Turn) → Type 0
 ReturnsAs result here cs o = OnReturn here cs (λ p a code below h. TurnsTo result a code below h (o p a code below h))
+
+abbrev pub ReturnsAsOr : Result Turn Stop → Here → List Activation → (Program → m.Activation → Heap → Type 0) → (Program → m.Activation → List m.Remaining → List m.Activation → Heap → Outcome m.Turn) → Type 0
+ReturnsAsOr result here cs runs_out o = OnReturn here cs (λ p a code below h. TurnsOr (runs_out p a h) result a code below h (o p a code below h))
 
 -- the same of all functions of a thread
 abbrev pub ThreadTurns : Result Turn Stop → Program → List Stored → ℕ → List Value → List Activation → Type 0
 ThreadTurns result p heap next choices cs =
     (y : List Ref) → IsFinite (heap_at y heap) →
-    (fs : List m.Activation) → AreFrames fs cs → TurnsAll result fs (heap_at y heap) (m.thread_turn p (Fresh next) choices fs (heap_at y heap))
+    (fs : List m.Activation) → AreFrames fs cs → TurnsAll (ThreadRunsOut p (Fresh next) choices fs (heap_at y heap)) result fs (heap_at y heap) (m.thread_turn p (Fresh next) choices fs (heap_at y heap))
 
 abbrev pub place_given : Option Place → Option APlace
 place_given None = None
@@ -279,6 +291,6 @@ replaced a r = m.went (frame_of a) a.locals.items (put_onto r (behind (ahead a.c
 abbrev pub restored : Activation → List Value → m.Activation
 restored a l = m.went (frame_of a) l (behind (ahead a.code.items))
 
--- the function that begins in this context
-abbrev pub Begins : FunctionInfo → Context → Activation → Type 0
-Begins f x a = (y : List Ref) → frame_at y a ≡ m.begin_with (Some f) (context_at y x)
+-- the function that begins in this context, if it is there
+abbrev pub Begins : Option FunctionInfo → Context → Activation → Type 0
+Begins f x a = (y : List Ref) → frame_at y a ≡ m.begin_with f (context_at y x)

@@ -62,7 +62,7 @@ pub fn begin<'p>(
     function: &'p FunctionInfo,
     context: Context,
 ) -> Result<Activation<'p>, Stop>
-    ensures ok { IfOk result (Begins function.now context) }
+    ensures ok { IfOk result (Begins (Some function.now) context) }
     ensures err { IfErr result IsSilent }
 {
     let mut locals = Vec::from_slice(alloc, &context.args)?;
@@ -74,4 +74,33 @@ pub fn begin<'p>(
         locals,
         code,
     })
+}
+
+/// The run of a function that isn't there: its arguments, and no code.
+fn begin_empty<'p>(alloc: Global, context: Context) -> Result<Activation<'p>, Stop>
+    ensures ok { IfOk result (Begins None context) }
+    ensures err { IfErr result IsSilent }
+{
+    let locals = Vec::from_slice(alloc, &context.args)?;
+    Ok(Activation {
+        context,
+        locals,
+        code: Vec::new(alloc),
+    })
+}
+
+/// The function of the context that begins.
+pub fn first_frame<'p>(
+    alloc: Global,
+    program: &'p Program,
+    context: Context,
+) -> Result<Activation<'p>, Stop>
+    ensures ok { IfOk result
+        (Begins (slice_get program.now.functions.items context.function) context) }
+    ensures err { IfErr result IsSilent }
+{
+    match function_of(program, context.function) {
+        Some(function) => begin(alloc, function, context),
+        None => begin_empty(alloc, context),
+    }
 }

@@ -6,7 +6,8 @@ ghost use Rattle.method.specs.Actions.{fitting, no_choices};
 ghost use Rattle.method.specs.Machine.{Turn as ATurn, Run as Running};
 ghost use Rattle.machine_values.specs.Answers.{Stops};
 ghost use Rattle.ref_machine.specs.States.{left_of};
-ghost use Rattle.ref_machine.specs.Turns.{ReturnsAs, ThreadTurns, taken};
+ghost use Rattle.ref_machine.specs.Turns.{ReturnsAsOr, ThreadTurns, taken};
+ghost use Rattle.ref_machine.specs.RunsOut.{TakenRunsOut};
 
 use crate::calls::call_turn;
 use crate::returns::{end_turn, value_turn};
@@ -38,7 +39,8 @@ fn plain_turn<'p>(
     s: &'p Stmt,
     below: &[Activation<'p>],
 ) -> Result<Turn<'p>, Stop>
-    ensures { ReturnsAs result here.now below.now (taken here.now.next_thread [] (Running s.now)) }
+    ensures { ReturnsAsOr result here.now below.now
+        (TakenRunsOut here.now.next_thread [] (Running s.now)) (taken here.now.next_thread [] (Running s.now)) }
 {
     match s {
         Stmt::Do(line, action) => action_turn(alloc, here, &[], *line, action),
@@ -70,7 +72,9 @@ fn stmt_turn<'p>(
     s: &'p Stmt,
     below: &[Activation<'p>],
 ) -> Result<Turn<'p>, Stop>
-    ensures { ReturnsAs result here.now below.now (taken here.now.next_thread choices.now (Running s.now)) }
+    ensures { ReturnsAsOr result here.now below.now
+        (TakenRunsOut here.now.next_thread choices.now (Running s.now))
+        (taken here.now.next_thread choices.now (Running s.now)) }
 {
     match s {
         Stmt::Do(line, action) => action_turn(alloc, here, choices, *line, action),
@@ -89,7 +93,9 @@ fn item_turn<'p>(
     item: &Remaining<'p>,
     below: &[Activation<'p>],
 ) -> Result<Turn<'p>, Stop>
-    ensures { ReturnsAs result here.now below.now (taken here.now.next_thread choices.now (left_of item.now)) }
+    ensures { ReturnsAsOr result here.now below.now
+        (TakenRunsOut here.now.next_thread choices.now (left_of item.now))
+        (taken here.now.next_thread choices.now (left_of item.now)) }
 {
     match item {
         Remaining::Run(s) => stmt_turn(alloc, here, choices, s, below),

@@ -1,14 +1,16 @@
 //! The step of one event.
 
-ghost use Rattle.std.specs.Prelude.{◌≡◌, ◌==◌, ◌<◌, map, position, length, IfOk, IfErr, IfSome, OnOk, OnErr};
+ghost use Rattle.std.specs.Prelude.{◌≡◌, ◌==◌, ◌<◌, ◌≤◌, map, position, length};
+ghost use Rattle.std.specs.Prelude.{IfOk, IfErr, IfSome, IfNone, IsErrOf, OnOk, OnErr};
 ghost use Rattle.object_types.specs.Sets.{some};
 ghost use Rattle.method.specs.Machine.{State as AState, next_number};
 ghost use Rattle.machine_objects.specs.Runs.{IsSilent};
 ghost use Rattle.ref_machine.specs.States.{Stands, Same, thread_of};
 ghost use Rattle.ref_machine.specs.Answers.{Steps, NotNext};
 ghost use Rattle.ref_machine.specs.Plans.{new_thread, Plans, Committed, Answers};
+ghost use Rattle.ref_machine.specs.RunsOut.{StepRunsOut};
 
-use crate::code::{begin, function_of};
+use crate::code::first_frame;
 use crate::items::turn;
 use crate::settle::{append_reserved, settle};
 use crate::state::{State, Thread};
@@ -57,9 +59,11 @@ pub struct Plan<'p> {
     line: u32,
 }
 
-/// Above the number of each thread.
+/// Above the number of each thread, if 32 bits have one.
+#[tactic(auto, using(crate::proofs::Threads::last_number))]
 fn next_number(threads: &[Thread<'_>]) -> Option<u32>
-    ensures { IfSome result (λ n. n ≡ next_number (map thread_of threads.now)) }
+    ensures some { IfSome result (λ n. n ≡ next_number (map thread_of threads.now)) }
+    ensures none { IfNone result (4294967296 ≤ next_number (map thread_of threads.now)) }
 {
     let mut next = 1u32;
     for thread in threads {
@@ -96,10 +100,7 @@ fn new_thread<'p>(alloc: Global, program: &'p Program, context: Context) -> Resu
     ensures err { IfErr result IsSilent }
 {
     let number = context.me.serial;
-    let Some(function) = function_of(program, context.function) else {
-        return Err(Stop::Exhausted);
-    };
-    let frame = begin(alloc, function, context)?;
+    let frame = first_frame(alloc, program, context)?;
     let mut frames = Vec::new(alloc);
     frames.push(frame)?;
     Ok(Thread { number, frames })
@@ -122,6 +123,9 @@ fn new_threads<'p>(
 }
 
 /// Works out the turn of the thread with this number.
+///
+/// # Errors
+/// Exhausted where an action gives it, a thread has the last number, or two threads have this one.
 fn work_out<'p>(
     alloc: Global,
     program: &'p Program,
@@ -199,7 +203,8 @@ fn take<'p>(
 /// Takes the step of the event. Every answer but Next leaves the state as it was.
 ///
 /// # Errors
-/// Exhausted, where a serial, a thread's number or a claim count would be past the greatest that a heap holds.
+/// Exhausted, where a serial, a thread's number or a claim count would be past the greatest that a heap holds, or two
+/// threads have the event's number.
 pub fn step<'p>(
     alloc: Global,
     program: &'p Program,
@@ -207,6 +212,8 @@ pub fn step<'p>(
     event: &Event,
 ) -> Result<Stepped, StepFault>
     ensures answer { IfOk result (λ a. (s : AState) → Stands s state.old → Steps a program.now s event.now state.new) }
+    ensures exhausted { IsErrOf result StepFault.Exhausted → (s : AState) → Stands s state.old →
+        StepRunsOut program.now s event.now }
     ensures kept { NotNext result → Same state.old state.new }
 {
     match take(alloc, program, state, event) {

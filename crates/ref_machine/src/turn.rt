@@ -4,13 +4,15 @@ ghost use Rattle.std.specs.Prelude.{◌≡◌, List, [], IfOk};
 ghost use Rattle.object_types.specs.declared.references.Ref.{Ref as Reference};
 ghost use Rattle.method.specs.Expressions.{eval, eval_all};
 ghost use Rattle.method.specs.Actions.{spot};
-ghost use Rattle.method.specs.Machine.{WrapAgain as AWrap, Test as ATest};
+ghost use Rattle.method.specs.Machine.{WrapAgain as AWrap, Test as ATest, Run as Running};
+ghost use Rattle.method.specs.declared.program.Stmt.TheVariants.{Do};
 ghost use Rattle.machine_values.specs.Spots.{context_at, spot_at};
 ghost use Rattle.machine_values.specs.Answers.{Yields};
 ghost use Rattle.machine_values.specs.Items.{YieldsAll};
 ghost use Rattle.ref_machine.specs.States.{left_of};
 ghost use Rattle.ref_machine.specs.Turns.{IsMoved, IsActed, IsCalled, IsReturned, IsStoredTurn};
-ghost use Rattle.ref_machine.specs.Turns.{IsStarting, OnValue, TurnsAs};
+ghost use Rattle.ref_machine.specs.Turns.{IsStarting, OnValue, TurnsAs, TurnsAsOr};
+ghost use Rattle.ref_machine.specs.RunsOut.{TakenRunsOut};
 ghost use Rattle.ref_machine.specs.Turns.{taken, acting, choice, while_head, do_head, unwrapping};
 
 use crate::checks::check_invariants;
@@ -207,7 +209,9 @@ pub fn action_turn<'p>(
     line: u32,
     action: &Action,
 ) -> Result<Turn<'p>, Stop>
-    ensures { TurnsAs result here.now (acting here.now.next_thread choices.now line action.now) }
+    ensures { TurnsAsOr result here.now
+        (TakenRunsOut here.now.next_thread choices.now (Running (Do line action.now)))
+        (acting here.now.next_thread choices.now line action.now) }
 {
     let at = spot(here.program, here.context, choices, line);
     let mut progress = starting(alloc, here)?;

@@ -8,3 +8,4 @@ pub mod Events
 pub mod Starting
 pub mod Stages
 pub mod LockRow
+pub mod Exhausting

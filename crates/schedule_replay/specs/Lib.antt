@@ -5,3 +5,4 @@ pub mod ReplayText
 pub mod Answers
 pub mod Stages
 pub mod Rows
+pub mod RunsOut

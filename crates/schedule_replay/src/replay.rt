@@ -2,9 +2,12 @@
 
 ghost use Rattle.std.specs.Prelude.{◌≡◌, ◌<◌, ◌≤◌, IsErrOf};
 ghost use Rattle.object_types.specs.Lookups.{heap_of};
+ghost use Rattle.method.specs.Machine.{State as AState};
+ghost use Rattle.ref_machine.specs.States.{Stands};
 ghost use Rattle.schedule_replay.specs.Printing.{Writes, Front};
 ghost use Rattle.schedule_replay.specs.Answers.{Answers, AnswersFrom, AnswersNoStart};
 ghost use Rattle.schedule_replay.specs.ReplayText.{end_text, replay_of};
+ghost use Rattle.schedule_replay.specs.RunsOut.{EventsRunOut, ReplayRunsOut};
 
 use crate::fault::ReplayFault;
 use crate::lines::{put_clean, put_fault, put_idle, put_step};
@@ -39,6 +42,8 @@ fn replay_events<'p, O: Sink>(
     out: &mut O,
 ) -> Result<bool, ReplayFault>
     ensures answer { AnswersFrom result program.now events.now state.entry (O.written out.old) (O.written out.new) }
+    ensures exhausted { IsErrOf result ReplayFault.Exhausted → (s : AState) → Stands s state.entry →
+        EventsRunOut program.now events.now s }
     ensures failed { IsErrOf result (ReplayFault.Sink SinkFault.Failed) → O.faults out.old < O.faults out.new }
     ensures never_falls { O.faults out.old ≤ O.faults out.new }
 {
@@ -67,6 +72,7 @@ fn replay_events<'p, O: Sink>(
 /// The answer where main doesn't start, with its line where a requires clause is false.
 fn put_no_start<O: Sink>(out: &mut O, fault: StartFault) -> Result<bool, ReplayFault>
     ensures answer { AnswersNoStart result fault (O.written out.old) (O.written out.new) }
+    ensures lasts { IsErrOf result ReplayFault.Exhausted → ⊥ }
     ensures failed { IsErrOf result (ReplayFault.Sink SinkFault.Failed) → O.faults out.old < O.faults out.new }
     ensures never_falls { O.faults out.old ≤ O.faults out.new }
 {
@@ -86,7 +92,8 @@ fn put_no_start<O: Sink>(out: &mut O, fault: StartFault) -> Result<bool, ReplayF
 ///
 /// # Errors
 /// `BadArgs` where the arguments don't fit main, and `Wide` where an annotation's value leaves 128 bits, with all lines
-/// before it written; `Sink` where the sink took no more; `Exhausted` and `OutOfMemory` where the machine gave up.
+/// before it written; `Sink` where the sink took no more; `Exhausted` where the machine's numbers run out at an event, and
+/// `OutOfMemory` where it wants memory.
 pub fn replay<O: Sink>(
     alloc: Global,
     program: &Program,
@@ -94,6 +101,7 @@ pub fn replay<O: Sink>(
     out: &mut O,
 ) -> Result<bool, ReplayFault>
     ensures answer { Answers result (replay_of program.now schedule.now) (O.written out.old) (O.written out.new) }
+    ensures exhausted { IsErrOf result ReplayFault.Exhausted → ReplayRunsOut program.now schedule.now }
     ensures failed { IsErrOf result (ReplayFault.Sink SinkFault.Failed) → O.faults out.old < O.faults out.new }
     ensures never_falls { O.faults out.old ≤ O.faults out.new }
 {

@@ -1,27 +1,17 @@
 -- How many conditions a program has.
-use Rattle.std.proofs.Common.{◌≡◌, ℕ, suc, ◌≤◌, List, [], ◌∷◌, length, refl, ap, sym, ◌∙◌, subst, arith}
+use Rattle.std.proofs.Common.{◌≡◌, ℕ, suc, ◌≤◌, List, [], ◌∷◌, length, refl, ap, sym, ◌∙◌, subst}
 use Rattle.std.proofs.lemmas.List.{length-map}
 use Rattle.method.specs.declared.program.Program.{Program}
-use Rattle.method.specs.Labels.{ProgramLabel, program_labels}
-use Rattle.terms.specs.Formula.{Formula}
+use Rattle.method.specs.Labels.{program_labels}
 use Rattle.term_meaning.specs.Meaning.{Language}
 use Rattle.cert_format.specs.Derivations.{Derivation}
-use Rattle.conditions.specs.Conditions.{Condition, formulas, label_formulas, conditions}
-use Rattle.condition_walks.proofs.LabelSizes.{one_condition_per_label}
+use Rattle.conditions.specs.Conditions.{Condition, conditions}
 use Rattle.check_labels.specs.declared.labels.ProgramLabel as held
 use Rattle.check_labels.specs.Labels.{label_of, labels_of}
 use Rattle.vcc_judge.specs.Verdicts.{AllFollow}
+use Rattle.vcc_judge.proofs.Trials.{one_per_label}
 
-paired : (ls : List ProgramLabel) (fs : List Formula) → length fs ≡ length ls → length (label_formulas ls fs) ≡ length ls
-paired [] fs same = refl
-paired (l ∷ ls) [] same = absurd (omega (arith, same))
-paired (l ∷ ls) (f ∷ fs) same = ap suc (paired ls fs (omega (arith, same)))
-
--- as many as labels
-pub one_per_label : (p : Program) → length (conditions p) ≡ length (program_labels p)
-one_per_label p = paired (program_labels p) (formulas p) (one_condition_per_label p)
-
--- and so as many as labels in code
+-- as many as labels in code
 pub one_per_held : (p : Program) (ls : List held.ProgramLabel) → labels_of ls ≡ program_labels p → length ls ≡ length (conditions p)
 one_per_held p ls is = sym (length-map ls label_of) ∙ (ap length is ∙ sym (one_per_label p))
 

@@ -1,7 +1,9 @@
 pub mod Words
 pub mod Counting
 pub mod Programs
-pub mod Certificates
+pub mod Counts
+pub mod Sessions
+pub mod Fronts
 pub mod Checking
 pub mod Verdicts
 pub mod Accepting

@@ -13,7 +13,7 @@ use Rattle.vcc_cli.specs.declared.refusal.Refusal.{Refusal}
 use Rattle.vcc_cli.specs.declared.refusal.Refusal.TheVariants.{ReadFault, BadArgs, Wide, Exhausted, OutOfMemory}
 use Rattle.vcc_cli.specs.Faults.{IsReadFault}
 use Rattle.vcc_cli.specs.Lines.{IsReported, line_of, status_of, wrote}
-use Rattle.vcc_cli.specs.Replays.{IsNoSchedule, IsPrinted, BreaksOff, IsReplayed, IsStop, last_line, replay_status, printed}
+use Rattle.vcc_cli.specs.Replays.{IsNoSchedule, IsPrinted, BreaksOff, IsReplayedOr, IsStop, last_line, replay_status, printed}
 
 -- a schedule is refused for no read
 pub no_read_fault : (bytes : List ℕ) (r : Refusal) → IsNoSchedule bytes r → IsReadFault {X = Schedule} (Err r) → ⊥
@@ -40,14 +40,14 @@ module _ (r : Replay) (a b c : ℕ) (old middle new : Option (List ℕ)) (status
       rises (inr (inl failed)) = let rose : b < c = failed.1 in inr (inl (failed.0, omega (arith, kept, rose), failed.2))
       rises (inr (inr x)) = inr (inr x)
 
-pub stops : (fault : ReplayFault) (r : Replay) (a b c : ℕ) (old middle new : Option (List ℕ)) (status : ℕ) → Answers (Err fault) r old middle → (IsErrOf {T = Bool} (Err fault) (replay.Sink sink.Failed) → a < b) → a ≤ b → IsStop fault (wrote b c middle new) status → IsReplayed r (wrote a c old new) status
-stops replay.BadArgs r a b c old middle new status answers failed kept stop = inl (ends_so r a b c old middle new status kept BadArgs NoStart answers.0 refl refl answers.1 stop)
-stops (replay.Wide w) r a b c old middle new status answers failed kept stop = inl (ends_so r a b c old middle new status kept (Wide w) (WideAt (record { left = w.a; right = w.b })) answers.0 refl refl answers.1 stop)
-stops replay.Exhausted r a b c old middle new status answers failed kept stop = inr (inr (breaks_off r a b c old middle new status kept Exhausted answers stop))
-stops replay.OutOfMemory r a b c old middle new status answers failed kept stop = inr (inl (breaks_off r a b c old middle new status kept OutOfMemory answers stop))
-stops (replay.Sink sink.Failed) r a b c old middle new status answers failed kept (seven, still) =
+pub stops : (U : Type 0) (fault : ReplayFault) (r : Replay) (a b c : ℕ) (old middle new : Option (List ℕ)) (status : ℕ) → Answers (Err fault) r old middle → (IsErrOf {T = Bool} (Err fault) replay.Exhausted → U) → (IsErrOf {T = Bool} (Err fault) (replay.Sink sink.Failed) → a < b) → a ≤ b → IsStop fault (wrote b c middle new) status → IsReplayedOr U r (wrote a c old new) status
+stops U replay.BadArgs r a b c old middle new status answers exhausted failed kept stop = inl (ends_so r a b c old middle new status kept BadArgs NoStart answers.0 refl refl answers.1 stop)
+stops U (replay.Wide w) r a b c old middle new status answers exhausted failed kept stop = inl (ends_so r a b c old middle new status kept (Wide w) (WideAt (record { left = w.a; right = w.b })) answers.0 refl refl answers.1 stop)
+stops U replay.Exhausted r a b c old middle new status answers exhausted failed kept stop = inr (inr (exhausted refl, breaks_off r a b c old middle new status kept Exhausted answers stop))
+stops U replay.OutOfMemory r a b c old middle new status answers exhausted failed kept stop = inr (inl (breaks_off r a b c old middle new status kept OutOfMemory answers stop))
+stops U (replay.Sink sink.Failed) r a b c old middle new status answers exhausted failed kept (seven, still) =
     let rose : a < b = failed refl in
     let more : c ≡ b = still.1 in
     inl (inr (inl (seven, omega (arith, rose, more), subst (λ (o : Option (List ℕ)). FrontWritten old o (printed r)) (sym still.0) (front_first old middle r.text (last_line r.ending) answers))))
-stops (replay.Sink sink.OutOfMemory) r a b c old middle new status answers failed kept (eight, still) =
+stops U (replay.Sink sink.OutOfMemory) r a b c old middle new status answers exhausted failed kept (eight, still) =
     inl (inr (inr (eight, subst (λ (o : Option (List ℕ)). FrontWritten old o (printed r)) (sym still.0) (front_first old middle r.text (last_line r.ending) answers))))

@@ -2,6 +2,7 @@ pub mod Source
 pub mod Held
 pub mod Accepts
 pub mod Checks
+pub mod Pieces
 pub mod Faults
 pub mod Lines
 pub mod Run

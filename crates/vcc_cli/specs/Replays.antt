@@ -12,6 +12,7 @@ use Rattle.vcc_base.specs.declared.sink.SinkFault.TheVariants as sink
 use Rattle.schedule_replay.specs.declared.fault.ReplayFault.{ReplayFault}
 use Rattle.schedule_replay.specs.declared.fault.ReplayFault.TheVariants as replay
 use Rattle.schedule_replay.specs.ReplayText.{Replay, Ending, Clean, Stopped, WideAt, NoStart, replay_of}
+use Rattle.schedule_replay.specs.RunsOut.{ReplayRunsOut}
 use Rattle.vcc_cli.specs.declared.refusal.LineFault.{LineFault}
 use Rattle.vcc_cli.specs.declared.refusal.LineFault.TheVariants.{BadLine, BadNumber, CutShort, Trailing, CountOver}
 use Rattle.vcc_cli.specs.declared.refusal.Refusal.{Refusal}
@@ -86,9 +87,13 @@ pub record BreaksOff (r : Replay) (refusal : Refusal) (w : Written) (status : �
   pub written : NowWritten w.before middle front
   pub reported : IsReported (Err refusal) (record w { before = middle }) status
 
--- The replay is printed; or it breaks off where the machine wants memory, or its numbers run out.
-abbrev pub IsReplayed : Replay → Written → ℕ → Type 0
-IsReplayed r w status = IsPrinted r w status ⊎ BreaksOff r OutOfMemory w status ⊎ BreaksOff r Exhausted w status
+-- The replay is printed; or it breaks off where the machine wants memory, or where its numbers run out, and then U holds.
+abbrev pub IsReplayedOr : Type 0 → Replay → Written → ℕ → Type 0
+IsReplayedOr U r w status = IsPrinted r w status ⊎ BreaksOff r OutOfMemory w status ⊎ (U × BreaksOff r Exhausted w status)
+
+-- the replay of this schedule by this program is printed; or it breaks off where the machine wants memory, or where its numbers run out at one of the events
+abbrev pub IsReplayed : Program → Schedule → Written → ℕ → Type 0
+IsReplayed p schedule w status = IsReplayedOr (ReplayRunsOut p schedule) (replay_of p schedule) w status
 
 -- what is unchanged where the sink took no more
 abbrev pub IsStill : Written → Type 0
@@ -118,7 +123,7 @@ pub record IsReplayRun (m : Map) (source_name schedule_name : List ℕ) (w : Wri
   pub schedule : Schedule
   pub source : HoldsProgram m source_name program
   pub events : HoldsSchedule m schedule_name schedule
-  pub replayed : IsReplayed (replay_of program schedule) w status
+  pub replayed : IsReplayed program schedule w status
 
 -- the run of these two names
 abbrev pub IsRunOfNames : Map → List ℕ → List ℕ → ReadCounts → Written → ℕ → Type 0

@@ -1,52 +1,47 @@
 //! The command `check`.
 
-ghost use Rattle.std.specs.Prelude.{◌≡◌, ◌<◌, ◌≤◌, ℕ, length, IfOk, IfErr, MatchResult, Ok, Err, Some};
-ghost use Rattle.method.specs.Labels as spec;
+ghost use Rattle.std.specs.Prelude.{◌≡◌, ◌<◌, ◌≤◌, ℕ, List, IfOk, IfErr, MatchResult, Ok, Err, Some};
+ghost use Rattle.cert_format.specs.Derivations.{Derivation};
 ghost use Rattle.term_meaning.specs.Meaning.{IsFaithful};
 ghost use Rattle.term_meaning.specs.Filling.{IsLayered};
 ghost use Rattle.condition_meaning.specs.Languages.{language_of};
 ghost use Rattle.condition_meaning.specs.Promises.{ConditionsAreValid};
-ghost use Rattle.check_labels.specs.Labels.{labels_of};
 ghost use Rattle.vcc_base.specs.Maps.{Map};
+ghost use Rattle.vcc_judge.specs.Verdicts.{IsJudged};
 ghost use Rattle.vcc_cli.specs.Accepts.{HoldsSafe};
 ghost use Rattle.vcc_cli.specs.Checks.{AreJudged, IsProgramAnswer};
 ghost use Rattle.vcc_cli.specs.Faults.{IsReadFault};
 ghost use Rattle.vcc_cli.specs.Lines.{wrote};
 ghost use Rattle.vcc_cli.specs.Run.{IsChecked, read_counts};
 
-use crate::certificate::read_certificate;
+use crate::certificate::{Outcome, try_certificate};
 use crate::labels::few_labels;
 use crate::program::read_program;
 use crate::refusal::{BlockCount, Refusal};
 use crate::report::report;
 use crate::verdict::{Failing, Verdict};
-use cert_format::certificate::Refutation;
-use check_labels::labels::ProgramLabel;
+use block_layout::space::Theory;
 use check_labels::names::item_name;
 use method::program::Program;
+use program_language::language::program_language;
 use std::alloc::Global;
 use typed_conditions::laws::{sources_are_annotated, sources_are_safe};
 use vcc_base::limit::Limit;
 use vcc_base::sink::Sink;
 use vcc_base::store::Store;
-use vcc_judge::judge::judge;
 use vcc_judge::verdict::{JudgeFault, Verdict as Judgment};
 
-/// What the lemmas and blocks show of the program, whose labels these are, one block for each.
-fn judge_blocks<'a, 'p>(
-    alloc: Global,
+/// The verdict of an outcome, or why there is none.
+fn verdict_of<'a, 'p>(
     program: &'p Program,
-    labels: &[ProgramLabel],
-    lemmas: &[Refutation],
-    blocks: &[Refutation],
+    outcome: Result<Judgment, JudgeFault>,
 ) -> Result<Verdict<'p>, Refusal<'a>>
-    requires labels { labels_of labels.now ≡ spec.program_labels program.now }
-    requires count { length labels.now ≡ length blocks.now }
-    ensures judged { AreJudged program.entry.now lemmas.now blocks.now result }
-    ensures valid { IsLayered (language_of program.entry.now) → IsFaithful (language_of program.entry.now) →
-        result ≡ Ok Verdict.Yes → ConditionsAreValid program.entry.now }
+    ensures judged { (lemmas blocks : List Derivation) → IsJudged program.entry.now lemmas blocks outcome →
+        AreJudged program.entry.now lemmas blocks result }
+    ensures yes { result ≡ Ok Verdict.Yes → outcome ≡ Ok Judgment.Yes }
+    ensures no_read { IsReadFault result → ⊥ }
 {
-    match judge(alloc, program, labels, lemmas, blocks) {
+    match outcome {
         Ok(Judgment::Yes) => Ok(Verdict::Yes),
         Ok(Judgment::No(label)) => {
             let name = item_name(program, label.item);
@@ -77,22 +72,22 @@ pub fn judge_name<'a, 'p, S: Store>(
         Ok(labels) => labels,
         Err(refusal) => return Err(refusal),
     };
-    let certificate = match read_certificate(alloc, store, name) {
-        Ok(certificate) => certificate,
+    let Ok(language) = program_language(alloc, program) else {
+        return Err(Refusal::OutOfMemory);
+    };
+    let theory = Theory {
+        program,
+        language: &language,
+    };
+    let Outcome { blocks, verdict } = match try_certificate(alloc, store, name, theory, &labels) {
+        Ok(outcome) => outcome,
         Err(refusal) => return Err(refusal),
     };
-    let blocks = certificate.blocks.len();
     let conditions = labels.len();
-    if blocks != conditions {
+    let Some(outcome) = verdict else {
         return Err(Refusal::Count(BlockCount { blocks, conditions }));
-    }
-    judge_blocks(
-        alloc,
-        program,
-        &labels,
-        &certificate.lemmas,
-        &certificate.blocks,
-    )
+    };
+    verdict_of(program, outcome)
 }
 
 /// Checks the source with this name by the certificate with that name: prints the verdict, or why there is none, and gives

@@ -6,6 +6,7 @@ pub mod check;
 mod copies;
 pub mod labels;
 mod main_call;
+pub mod pieces;
 pub mod program;
 pub mod refusal;
 pub mod report;

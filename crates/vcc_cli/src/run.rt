@@ -3,7 +3,6 @@
 ghost use Rattle.std.specs.Prelude.{◌≡◌, ◌<◌, ◌≤◌, ℕ, List, MatchResult, Some};
 ghost use Rattle.vcc_base.specs.Maps.{Map};
 ghost use Rattle.schedule_format.specs.Reading.{Fails, schedule_of};
-ghost use Rattle.schedule_replay.specs.ReplayText.{replay_of};
 ghost use Rattle.vcc_cli.specs.Faults.{IsReadFault};
 ghost use Rattle.vcc_cli.specs.Lines.{wrote};
 ghost use Rattle.vcc_cli.specs.Run.{read_counts};
@@ -76,7 +75,7 @@ fn report_stop<O: Sink>(out: &mut O, fault: ReplayFault) -> u8
 
 /// Prints the replay of the schedule by the program, and gives its status.
 fn print_replay<O: Sink>(alloc: Global, program: &Program, schedule: &Schedule, out: &mut O) -> u8
-    ensures { IsReplayed (replay_of program.now schedule.now)
+    ensures { IsReplayed program.now schedule.now
         (wrote (O.faults out.old) (O.faults out.new) (O.written out.old) (O.written out.new)) result }
 {
     match replay(alloc, program, schedule, out) {

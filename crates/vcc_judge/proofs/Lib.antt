@@ -2,4 +2,4 @@ pub mod Lists
 pub mod Remaining
 pub mod Shown
 pub mod Verified
-pub mod Deciding
+pub mod Trials

@@ -68,6 +68,16 @@ abbrev pub IsJudged : Program → List Derivation → List Derivation → Result
 IsJudged p lemmas blocks result =
     StopsAtLemma (language_of p) lemmas result ⊎ Decides (language_of p) lemmas (conditions p) blocks result ⊎ (result ≡ Err f.OutOfMemory)
 
+-- the answer of one condition by its block: yes where it follows
+abbrev pub IsOutcome : Language → List Derivation → Condition → Derivation → Result Verdict JudgeFault → Type 0
+IsOutcome l lemmas c b result = (Follows l lemmas c.formula b × (result ≡ Ok Yes)) ⊎ Stops l lemmas c b result
+
+-- The answer of the first blocks: yes while each condition follows by its block, whatever blocks are still to come; the first that isn't shown to follow decides. Blocks behind the last condition say nothing.
+abbrev pub DecidesSoFar : Language → List Derivation → List Condition → List Derivation → Result Verdict JudgeFault → Type 0
+DecidesSoFar l lemmas [] bs result = result ≡ Ok Yes
+DecidesSoFar l lemmas (c ∷ cs) [] result = result ≡ Ok Yes
+DecidesSoFar l lemmas (c ∷ cs) (b ∷ bs) result = (Follows l lemmas c.formula b × DecidesSoFar l lemmas cs bs result) ⊎ Stops l lemmas c b result
+
 -- every condition of the program follows by its block and the lemmas
 abbrev pub IsVerified : Program → List Derivation → List Derivation → Type 0
 IsVerified p lemmas blocks = AllFollow (language_of p) lemmas (conditions p) blocks

@@ -1,6 +1,6 @@
 //! Judging a program by the blocks of a certificate.
 
-ghost use Rattle.std.specs.Prelude.{◌≡◌, ◌<◌, length, slice_get, Ok, Some};
+ghost use Rattle.std.specs.Prelude.{◌≡◌, length, Ok};
 ghost use Rattle.method.specs.Labels as spec;
 ghost use Rattle.term_meaning.specs.Meaning.{IsFaithful};
 ghost use Rattle.term_meaning.specs.Filling.{IsLayered};
@@ -10,8 +10,7 @@ ghost use Rattle.condition_meaning.specs.Promises.{ConditionsAreValid};
 ghost use Rattle.check_labels.specs.Labels.{labels_of};
 ghost use Rattle.vcc_judge.specs.Verdicts.{IsJudged};
 
-use crate::room::Room;
-use crate::sequence::Conditions;
+use crate::trial::Trial;
 use crate::verdict::{JudgeFault, Verdict};
 use block_layout::space::Theory;
 use cert_format::certificate::Refutation;
@@ -20,23 +19,8 @@ use method::program::Program;
 use program_language::language::program_language;
 use std::alloc::Global;
 
-fn label_at(labels: &[ProgramLabel], i: usize) -> ProgramLabel
-    requires { i < length labels.now }
-    ensures { slice_get labels.now i ≡ Some result }
-{
-    labels[i]
-}
-
-fn block_at(blocks: &[Refutation], i: usize) -> &Refutation
-    requires { i < length blocks.now }
-    ensures { slice_get blocks.now i ≡ Some result.now }
-{
-    &blocks[i]
-}
-
-/// The same by the program's theory. The lemmas are judged first. The k-th condition goes with the k-th label and block; there are as many
-/// conditions as labels, so none is left behind the last block, and none lacks.
-#[tactic(auto, using(crate::proofs::Deciding::refused_judged))]
+/// The same by the program's theory. The lemmas are judged first.
+#[tactic(auto, using(crate::proofs::Trials::refused_judged))]
 fn judge_by(
     alloc: Global,
     theory: Theory<'_>,
@@ -49,21 +33,11 @@ fn judge_by(
     requires count { length labels.now ≡ length blocks.now }
     ensures { IsJudged theory.entry.program.now lemmas.now blocks.now result }
 {
-    let mut room = Room::new(alloc, theory, lemmas)?;
-    let mut conditions = Conditions::new(alloc);
-    for i in 0..blocks.len() {
-        let given = conditions.give(theory.program)?;
-        let Some(condition) = given else {
-            return Ok(Verdict::Yes);
-        };
-        let block = block_at(blocks, i);
-        let holds = room.follows(theory, conditions.graph(), condition, block)?;
-        if !holds {
-            let label = label_at(labels, i);
-            return Ok(Verdict::No(label));
-        }
+    let mut trial = Trial::new(alloc, theory, lemmas)?;
+    for block in blocks {
+        trial.take_block(theory, labels, block)?;
     }
-    Ok(Verdict::Yes)
+    trial.into_outcome()
 }
 
 /// What a certificate's lemmas and blocks show of the program, whose labels these are: one block for each condition, in

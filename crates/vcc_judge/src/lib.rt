@@ -5,4 +5,5 @@ pub mod judge;
 pub mod laws;
 pub mod room;
 pub mod sequence;
+pub mod trial;
 pub mod verdict;

@@ -6,11 +6,13 @@ use Rattle.method.specs.declared.program.CheckKind.TheVariants.{AtomicClosed, In
 use Rattle.method.specs.Expressions.{Tested, all_checks}
 use Rattle.method.specs.Actions as m
 use Rattle.machine_values.specs.Spots.{context_at, spot_at}
-use Rattle.machine_values.specs.Answers.{Finds, Stops, verdict}
+use Rattle.machine_values.specs.Answers.{Finds, StopsOr, verdict}
+use Rattle.machine_values.proofs.Outcomes.{anyhow}
 use Rattle.machine_values.specs.Testing.{inv_tests}
 use Rattle.machine_objects.specs.Runs.{progress_at, Follows, Lands}
 use Rattle.machine_objects.proofs.Checks.{lands_gives}
 use Rattle.machine_actions.specs.Inside.{closed_tests}
+use Rattle.machine_actions.specs.RunsOut.{ListRunsOut}
 use Rattle.machine_actions.proofs.Closing.{tests_closed}
 use Rattle.machine_actions.proofs.BlockEnds.{ends, listed_stop, changed_stop, made_stop, all_pass, unlisted, unclosed, inner_stop, block_comes}
 use Rattle.machine_actions.proofs.blocks.atomic.Goals as goal
@@ -19,7 +21,8 @@ pub returns-in_err-values : goal.returns-in_err-values
 returns-in_err-values c n x e finite =
     let a = c.args in
     let q = err_from_is_err_and c.from_residual.result c.from_residual.ensures.1 in
-    rw (q.1, q.2) (unlisted a.at.now.program.now (spot_at x a.at.now) a.listed.now a.body.now n (progress_at e a.progress.now) c.in_err-values.field-0.0 (c.in_err-values.ensures n x e finite))
+    rw (q.1, q.2)
+    (anyhow _ c.in_err-values.field-0.0 _ (unlisted a.at.now.program.now (spot_at x a.at.now) a.listed.now a.body.now n (progress_at e a.progress.now) c.in_err-values.field-0.0 (c.in_err-values.ensures n x e finite)))
 
 pub returns-in_err-check_closed : goal.returns-in_err-check_closed
 returns-in_err-check_closed c n x e finite =
@@ -31,8 +34,9 @@ returns-in_err-check_closed c n x e finite =
     let objects : os ≡ map referent vs = c.in_ok-objects.ensures ∙ ap (map referent) c.deref.ensures.value in
     let same = ap (closed_tests a.progress.now.heap) c.deref-2.ensures.value ∙ tests_closed a.progress.now.heap e.support os in
     rw (q.1, q.2)
+    (anyhow _ stop _
     (unclosed a.at.now.program.now (spot_at x a.at.now) a.listed.now a.body.now n (progress_at e a.progress.now) vs os objects (c.in_ok-values.ensures n x e finite) stop
-    (subst (λ (ts : List Tested). Finds (Err stop) (verdict a.at.now.line AtomicClosed ts)) same c.in_err-check_closed.ensures))
+    (subst (λ (ts : List Tested). Finds (Err stop) (verdict a.at.now.line AtomicClosed ts)) same c.in_err-check_closed.ensures)))
 
 pub returns-in_err-run_list : goal.returns-in_err-run_list
 returns-in_err-run_list c n x e finite =
@@ -47,7 +51,8 @@ returns-in_err-run_list c n x e finite =
     let objects : os ≡ map referent vs = c.in_ok-objects.ensures ∙ ap (map referent) c.deref.ensures.value in
     let same = ap (closed_tests a.progress.now.heap) c.deref-2.ensures.value ∙ tests_closed a.progress.now.heap e.support os in
     let closed = subst (λ (ts : List Tested). Finds (Ok tt) (verdict a.at.now.line AtomicClosed ts)) same c.in_ok-check_closed.ensures in
-    let stops = subst (λ (rs : List Ref). Stops stop (m.run_list p (context_at x a.at.now.context.now) rs a.body.now k m.no_tally g)) c.deref-3.ensures.value (c.in_err-run_list.ensures m.no_tally k x e finite) in
+    let z = context_at x a.at.now.context.now in
+    let stops = subst (λ (rs : List Ref). StopsOr (ListRunsOut p z rs a.body.now k m.no_tally g) stop (m.run_list p z rs a.body.now k m.no_tally g)) c.deref-3.ensures.value (c.in_err-run_list.ensures m.no_tally k x e finite) in
     rw (q.1, q.2)
     (inner_stop p (spot_at x a.at.now) a.listed.now a.body.now n g vs os objects (c.in_ok-values.ensures n x e finite) closed stop stops)
 
@@ -71,8 +76,9 @@ returns-in_err-check_invariants c n x e finite =
     let plain = c.deref-5.ensures.value ∙ c.in_ok-plain.ensures ∙ ap (m.listed_objects ls) c.deref-4.ensures.value in
     let found = subst (λ (ts : List Tested). Finds (Err stop) (verdict a.at.now.line Invariant ts)) (λ j. inv_tests p (c.in_ok-before.ensures j) now.heap (plain j)) c.in_err-check_invariants.ensures in
     rw (q.1, q.2)
+    (anyhow _ stop _
     (block_comes p s ls a.body.now n g vs os objects (c.in_ok-values.ensures n x e finite) closed now ran (Err stop) now
-    (λ d fits. listed_stop p s a.body.now ls os a.progress.now.heap e.support (k + m.list_checks p a.body.now) now d stop found))
+    (λ d fits. listed_stop p s a.body.now ls os a.progress.now.heap e.support (k + m.list_checks p a.body.now) now d stop found)))
 
 pub returns-in_err-check_invariants-2 : goal.returns-in_err-check_invariants-2
 returns-in_err-check_invariants-2 c n x e finite =
@@ -95,8 +101,9 @@ returns-in_err-check_invariants-2 c n x e finite =
     let passed = subst (λ (ts : List Tested). Finds (Ok tt) (verdict a.at.now.line Invariant ts)) (λ j. inv_tests p (c.in_ok-before.ensures j) now.heap (plain j)) c.in_ok-check_invariants.ensures in
     let found = subst (λ (ts : List Tested). Finds (Err stop) (verdict a.at.now.line Invariant ts)) (λ j. inv_tests p (c.in_ok-before.ensures j) now.heap (c.deref-6.ensures.value j)) c.in_err-check_invariants-2.ensures in
     rw (q.1, q.2)
+    (anyhow _ stop _
     (block_comes p s ls a.body.now n g vs os objects (c.in_ok-values.ensures n x e finite) closed now ran (Err stop) now
-    (λ d fits. changed_stop p s a.body.now ls os a.progress.now.heap e.support (k + m.list_checks p a.body.now) now d passed stop found))
+    (λ d fits. changed_stop p s a.body.now ls os a.progress.now.heap e.support (k + m.list_checks p a.body.now) now d passed stop found)))
 
 pub returns-in_err-check_invariants-3 : goal.returns-in_err-check_invariants-3
 returns-in_err-check_invariants-3 c n x e finite =
@@ -120,8 +127,9 @@ returns-in_err-check_invariants-3 c n x e finite =
     let kept = subst (λ (ts : List Tested). Finds (Ok tt) (verdict a.at.now.line Invariant ts)) (λ j. inv_tests p (c.in_ok-before.ensures j) now.heap (c.deref-6.ensures.value j)) c.in_ok-check_invariants-2.ensures in
     let found = subst (λ (ts : List Tested). Finds (Err stop) (verdict a.at.now.line Invariant ts)) (λ j. inv_tests p (c.in_ok-before.ensures j) now.heap (c.deref-7.ensures.value j)) c.in_err-check_invariants-3.ensures in
     rw (q.1, q.2)
+    (anyhow _ stop _
     (block_comes p s ls a.body.now n g vs os objects (c.in_ok-values.ensures n x e finite) closed now ran (Err stop) now
-    (λ d fits. made_stop p s a.body.now ls os a.progress.now.heap e.support (k + m.list_checks p a.body.now) now d passed kept stop found))
+    (λ d fits. made_stop p s a.body.now ls os a.progress.now.heap e.support (k + m.list_checks p a.body.now) now d passed kept stop found)))
 
 pub returns : goal.returns
 returns c n x e finite =

@@ -7,10 +7,11 @@ use Rattle.method.specs.Actions as m
 use Rattle.machine_laws.proofs.Heaps.{put_finite}
 use Rattle.machine_values.specs.Spots.{heap_at, spot_at}
 use Rattle.machine_objects.specs.Runs.{progress_at, Leaves}
-use Rattle.machine_objects.proofs.Landing.{heap_follows, silent}
+use Rattle.machine_objects.specs.RunsOut.{MallocRunsOut}
+use Rattle.machine_objects.proofs.Landing.{heap_follows, silent_or}
 use Rattle.machine_objects.proofs.Checks.{lands_gives}
 use Rattle.machine_objects.proofs.Vacant.{empty}
-use Rattle.machine_objects.proofs.Mallocs.{malloc_misfit, malloc_null, malloc_new}
+use Rattle.machine_objects.proofs.Mallocs.{malloc_misfit, malloc_null, malloc_new, malloc_unnamed, malloc_unplaced}
 use Rattle.machine_objects.proofs.objects.malloc.Goals as goal
 
 pub returns-in_default : goal.returns-in_default
@@ -30,13 +31,25 @@ returns-then-not-is_true c n x e finite =
 
 pub returns-in_err-o : goal.returns-in_err-o
 returns-in_err-o c n x e finite =
-    let p = err_from_is_err_and c.from_residual.result c.from_residual.ensures.1 in
-    rw (p.1, p.2) (silent c.in_err-o.field-0.0 _ c.in_err-o.ensures.err)
+    let a = c.args in
+    let p = a.at.now.program.now in
+    let g = progress_at e a.progress.now in
+    let q = err_from_is_err_and c.from_residual.result c.from_residual.ensures.1 in
+    rw (q.1, q.2)
+    (silent_or _ (MallocRunsOut p a.ty a.at.now.choices.now g) c.in_err-o.field-0.0 _
+    (λ none. malloc_unnamed p (spot_at x a.at.now) a.ty a.at.now.choices.now c.in-Some.contents.now c.in-Some.choice.now g c.in-Some.ensures.cases.0 (none e.support finite))
+    c.in_err-o.ensures.err)
 
 pub returns-in_err-place_object : goal.returns-in_err-place_object
 returns-in_err-place_object c n x e finite =
-    let p = err_from_is_err_and c.from_residual-in_err-place_object.result c.from_residual-in_err-place_object.ensures.1 in
-    rw (p.1, p.2) (silent c.in_err-place_object.field-0.0 _ c.in_err-place_object.ensures.err)
+    let a = c.args in
+    let p = a.at.now.program.now in
+    let g = progress_at e a.progress.now in
+    let q = err_from_is_err_and c.from_residual-in_err-place_object.result c.from_residual-in_err-place_object.ensures.1 in
+    rw (q.1, q.2)
+    (silent_or _ (MallocRunsOut p a.ty a.at.now.choices.now g) c.in_err-place_object.field-0.0 _
+    (malloc_unplaced p (spot_at x a.at.now) a.ty a.at.now.choices.now c.in-Some.contents.now c.in-Some.choice.now g c.in-Some.ensures.cases.0 c.first_field.result c.first_field.ensures)
+    c.in_err-place_object.ensures.err)
 
 pub returns : goal.returns
 unfolding put

@@ -4,13 +4,16 @@ use Rattle.object_types.specs.Heap.{hand_over}
 use Rattle.object_types.specs.Lookups.{heap_of}
 use Rattle.method.specs.declared.program.CheckKind.TheVariants.{Spawn}
 use Rattle.method.specs.Expressions.{Tested, call_scene}
-use Rattle.method.specs.Actions.{items_of}
+use Rattle.method.specs.Actions.{Fresh, items_of}
 use Rattle.machine_laws.proofs.Heaps.{hand_finite}
 use Rattle.machine_values.specs.Answers.{Stops, Finds, verdict}
 use Rattle.machine_values.specs.Spots.{heap_at, context_at, spot_at}
+use Rattle.machine_values.proofs.Outcomes.{anyhow}
 use Rattle.machine_objects.specs.Runs.{Follows}
 use Rattle.machine_objects.proofs.Checks.{lands_gives}
+use Rattle.machine_objects.proofs.Landing.{exhausts}
 use Rattle.machine_ownership.specs.Threads.{ArePassing}
+use Rattle.machine_ownership.specs.RunsOut.{NoThread}
 use Rattle.machine_ownership.proofs.Spawns.{started_follows, handed_alike, spawn_refused, spawn_unmet, spawn_wide, spawn_gives, required_is, enters_is}
 use Rattle.machine_ownership.proofs.spawn.spawn.Goals as goal
 
@@ -22,7 +25,9 @@ returns-in_err-items c n y e finite =
     let f = a.function.now in
     let h = heap_at e.support a.progress.now.heap in
     let q = err_from_is_err_and c.from_residual.result c.from_residual.ensures.1 in
-    rw (q.1, q.2) (spawn_refused p s a.number f a.args.now n e a.progress.now c.in_err-items.field-0.0 (subst (λ es. ArePassing (Err c.in_err-items.field-0.0) p s h es a.args.now) c.deref.ensures.value (c.in_err-items.ensures y e.support finite)))
+    rw (q.1, q.2)
+    (anyhow _ c.in_err-items.field-0.0 _
+    (spawn_refused p s a.number f a.args.now n e a.progress.now c.in_err-items.field-0.0 (subst (λ es. ArePassing (Err c.in_err-items.field-0.0) p s h es a.args.now) c.deref.ensures.value (c.in_err-items.ensures y e.support finite))))
 
 pub returns-in_err-check_clauses : goal.returns-in_err-check_clauses
 returns-in_err-check_clauses c n y e finite =
@@ -40,8 +45,9 @@ returns-in_err-check_clauses c n y e finite =
     let required = required_is p s a.number f a.args.now n e a.progress.now passing.0 u least stored records c.in_ok-env.env c.in_ok-env.ensures.ok c.deref-3.result.now c.deref-3.ensures.value in
     let q = err_from_is_err_and c.from_residual-in_err-check_clauses.result c.from_residual-in_err-check_clauses.ensures.1 in
     rw (q.1, q.2)
+    (anyhow _ c.in_err-check_clauses.field-0.0 _
     (spawn_unmet p s a.number f a.args.now n e a.progress.now passing.0 u least c.in_err-check_clauses.field-0.0
-    (subst (λ (ts : List Tested). Finds (Err c.in_err-check_clauses.field-0.0) (verdict a.at.now.line Spawn ts)) required c.in_err-check_clauses.ensures))
+    (subst (λ (ts : List Tested). Finds (Err c.in_err-check_clauses.field-0.0) (verdict a.at.now.line Spawn ts)) required c.in_err-check_clauses.ensures)))
 
 pub returns-in_err-context : goal.returns-in_err-context
 returns-in_err-context c n y e finite =
@@ -60,7 +66,17 @@ returns-in_err-context c n y e finite =
     let met = ap (verdict a.at.now.line Spawn) (sym required) ∙ c.in_ok-check_clauses.ensures in
     let enters = enters_is p s a.number f a.args.now n e a.progress.now passing.0 u least stored records in
     let q = err_from_is_err_and c.from_residual-in_err-context.result c.from_residual-in_err-context.ensures.1 in
-    rw (q.1, q.2) (spawn_wide p s a.number f a.args.now n e a.progress.now passing.0 u least met c.in_err-context.field-0.0 (subst (Stops c.in_err-context.field-0.0) enters (c.in_err-context.ensures k.support)))
+    rw (q.1, q.2)
+    (anyhow _ c.in_err-context.field-0.0 _
+    (spawn_wide p s a.number f a.args.now n e a.progress.now passing.0 u least met c.in_err-context.field-0.0 (subst (Stops c.in_err-context.field-0.0) enters (c.in_err-context.ensures k.support))))
+
+pub returns-in_err-thread : goal.returns-in_err-thread
+returns-in_err-thread c n y e finite =
+    let a = c.args in
+    let q = err_from_is_err_and c.from_residual-in_err-thread.result c.from_residual-in_err-thread.ensures.1 in
+    rw (q.1, q.2)
+    (exhausts (NoThread (Fresh a.progress.now.next_thread) (heap_at e.support a.progress.now.heap)) c.in_err-thread.field-0.0 _ c.in_err-thread.ensures.err
+    (c.in_err-thread.ensures.exhausted e.support finite))
 
 pub returns : goal.returns
 returns c n y e finite =

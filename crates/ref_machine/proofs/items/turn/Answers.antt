@@ -4,7 +4,8 @@ use Rattle.method.specs.Actions.{Fresh}
 use Rattle.method.specs.Machine as m
 use Rattle.machine_values.specs.Spots.{heap_at, context_at}
 use Rattle.ref_machine.specs.States.{left_of, ahead, frame_at}
-use Rattle.ref_machine.specs.Turns.{TurnsTo, TurnsAll, behind}
+use Rattle.ref_machine.specs.RunsOut.{TakenRunsOut, CodeRunsOut, ThreadRunsOut}
+use Rattle.ref_machine.specs.Turns.{TurnsTo, TurnsOr, TurnsAll, behind}
 use Rattle.ref_machine.proofs.Ahead.{ahead_more}
 use Rattle.ref_machine.proofs.Frames.{on_top, no_items}
 use Rattle.ref_machine.proofs.items.turn.Goals as goal
@@ -20,9 +21,9 @@ returns c y finite fs are =
     let r = c.item_turn.result in
     let e = ap ahead (sym c.deref-2.ensures.value ∙ c.in-Some-split_last.ensures.cases.0) ∙ ahead_more c.in-Some-split_last.field-0-1.now item in
     let rest = ahead c.in-Some-split_last.field-0-1.now in
-    let fact = subst (λ (l : List Value). let f : m.Activation = record { context = context_at top.list frame.context; locals = l; code = ahead frame.code.items } in TurnsTo r f rest top.rest h (m.turn_of a.program.now (Fresh a.next_thread) a.choices.now f (left_of item ∷ rest) top.rest h)) c.deref.ensures.value (c.item_turn.ensures top.list y finite (ahead frame.code.items) rest top.rest top.below) in
-    subst (λ bs. TurnsAll r bs h (m.thread_turn a.program.now (Fresh a.next_thread) a.choices.now bs h)) (sym top.is)
-    (subst (λ z. TurnsTo r b (behind z) top.rest h (m.turn_of a.program.now (Fresh a.next_thread) a.choices.now b z top.rest h)) (sym e) fact)
+    let fact = subst (λ (l : List Value). let f : m.Activation = record { context = context_at top.list frame.context; locals = l; code = ahead frame.code.items } in TurnsOr (TakenRunsOut a.next_thread a.choices.now (left_of item) a.program.now f h) r f rest top.rest h (m.turn_of a.program.now (Fresh a.next_thread) a.choices.now f (left_of item ∷ rest) top.rest h)) c.deref.ensures.value (c.item_turn.ensures top.list y finite (ahead frame.code.items) rest top.rest top.below) in
+    subst (λ bs. TurnsAll (ThreadRunsOut a.program.now (Fresh a.next_thread) a.choices.now bs h) r bs h (m.thread_turn a.program.now (Fresh a.next_thread) a.choices.now bs h)) (sym top.is)
+    (subst (λ z. TurnsOr (CodeRunsOut a.program.now (Fresh a.next_thread) a.choices.now b z h) r b (behind z) top.rest h (m.turn_of a.program.now (Fresh a.next_thread) a.choices.now b z top.rest h)) (sym e) fact)
 
 pub returns-in_default-split_last : goal.returns-in_default-split_last
 returns-in_default-split_last c y finite fs are =
@@ -34,6 +35,6 @@ returns-in_default-split_last c y finite fs are =
     let r = c.end_turn.result in
     let e = ap ahead (sym c.deref-2.ensures.value) ∙ no_items c.deref-2.result.now c.in_default-split_last.ensures.cases in
     let fact = rw c.deref.ensures.value at (c.end_turn.ensures top.list y finite (ahead frame.code.items) [] top.rest top.below) in
-    subst (λ bs. TurnsAll r bs h (m.thread_turn a.program.now (Fresh a.next_thread) a.choices.now bs h)) (sym top.is)
-    (subst (λ z. TurnsTo r b (behind z) top.rest h (m.turn_of a.program.now (Fresh a.next_thread) a.choices.now b z top.rest h)) (sym e)
+    subst (λ bs. TurnsAll (ThreadRunsOut a.program.now (Fresh a.next_thread) a.choices.now bs h) r bs h (m.thread_turn a.program.now (Fresh a.next_thread) a.choices.now bs h)) (sym top.is)
+    (subst (λ z. TurnsOr (CodeRunsOut a.program.now (Fresh a.next_thread) a.choices.now b z h) r b (behind z) top.rest h (m.turn_of a.program.now (Fresh a.next_thread) a.choices.now b z top.rest h)) (sym e)
     (subst (λ vs. TurnsTo r b [] top.rest h (m.turn_of a.program.now (Fresh a.next_thread) vs b [] top.rest h)) (sym c.in_ok-no_choices.ensures.ok) fact))

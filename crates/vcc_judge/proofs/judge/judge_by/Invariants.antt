@@ -1,9 +1,10 @@
+use Rattle.std.proofs.Common.{take}
 use Rattle.vcc_judge.specs.Shows.{IsReady}
-use Rattle.vcc_judge.proofs.Deciding.{Judging}
+use Rattle.vcc_judge.specs.Trials.{IsTried}
 use Rattle.vcc_judge.proofs.judge.judge_by.Given as goal
 
-abbrev pub invariant-loop-i : goal.invariant-loop-i
-invariant-loop-i l = record {
-  judging : Judging l.theory.program.now l.fn.lemmas l.labels l.blocks l.conditions l.i;
-  ready : IsReady l.theory l.fn.lemmas l.room;
+abbrev pub invariant-loop-block : goal.invariant-loop-block
+invariant-loop-block l = record {
+  tried : IsTried l.theory.program.now l.fn.lemmas l.trial (take l.block-index l.blocks);
+  ready : IsReady l.theory l.fn.lemmas l.trial.room;
 }
