@@ -13,9 +13,12 @@ use Rattle.rule_linear.specs.Forms.{Sum, Number, Single, Plus, Minus, Times, Ste
 use Rattle.rule_linear.specs.Bounds.{difference, one_of, one_step, bound_number, bound_parts, bound_steps, bound_at, literal_number, added_steps}
 use Rattle.rule_linear.specs.Sides.{weighted, first_total}
 use Rattle.rule_linear.specs.Walks.{IsAllKnown, IsNextKnown}
+use Rattle.vcc_rules.specs.declared.rule.Summand.{Summand}
+use Rattle.rule_linear.specs.Coefficients.{AreCleared, AreClear, place_units, every_unit}
 use Rattle.rule_linear.specs.Sizes.{IsAtMost, IsSized, IsBoundSized, IsTotalSized, IsMoreSized, IsNextSized}
 use Rattle.rule_linear.proofs.InOrder.{fit_both}
 use Rattle.rule_linear.proofs.Totals.{total_more}
+use Rattle.rule_linear.proofs.Coefficients.{Clearing, start_clearing, next_clearing, all_clear}
 use Rattle.rule_linear.proofs.Places.{Reached, start_known, next_known, all_known}
 
 fits_within : (size x : ℤ) → FitsSigned w128 size → IsAtMost size x → FitsSigned w128 x
@@ -170,13 +173,14 @@ module _ (w : Weights) (terms : List Term) (i : ℕ) where
       plus_none : (x m : ℤ) → x +ℤ m *ℤ pos 0 ≡ x
       plus_none x m = omega (arith, ints)
 
--- what is known where the literals before the place were added
-pub record SizedSoFar (w : Weights) (terms : List Term) (i : ℕ) (size : ℤ) : Type 0 where
+-- what is known where the literals before the place were added: the sizes of their numbers, and which units were cleared
+pub record SizedSoFar (w : Weights) (terms : List Term) (room : List Summand) (i : ℕ) (size : ℤ) : Type 0 where
   pub reached : Reached w terms i
   pub sized : IsTotalSized w terms i size
+  pub clearing : Clearing w terms room i
 
-pub start_sized : (w : Weights) (terms : List Term) → SizedSoFar w terms 0 (pos 0)
-start_sized w terms = record { reached = start_known w terms; sized = record { within = λ p. zero_within; size_fits = zero_fits } }
+pub start_sized : (w : Weights) (terms : List Term) (room : List Summand) → SizedSoFar w terms room 0 (pos 0)
+start_sized w terms room = record { reached = start_known w terms; sized = record { within = λ p. zero_within; size_fits = zero_fits }; clearing = start_clearing w terms room }
   where
     zero_within : IsAtMost (pos 0) (pos 0)
     zero_within = (omega (arith, ints), omega (arith, ints))
@@ -184,13 +188,19 @@ start_sized w terms = record { reached = start_known w terms; sized = record { w
     zero_fits : FitsSigned w128 (pos 0)
     zero_fits = omega (arith, ints)
 
-pub so_far_sized : (w : Weights) (terms : List Term) (i : ℕ) (size : ℤ) → SizedSoFar w terms i size → IsTotalSized w terms i size
-so_far_sized w terms i size s = s.sized
+pub so_far_sized : (w : Weights) (terms : List Term) (room : List Summand) (i : ℕ) (size : ℤ) → SizedSoFar w terms room i size → IsTotalSized w terms i size
+so_far_sized w terms room i size s = s.sized
 
-pub step_sized : (w : Weights) (terms : List Term) (i : ℕ) (size n : ℤ) → length w.multipliers.now ≡ length w.literals.now → i < length w.literals.now → SizedSoFar w terms i size → IsNextSized w terms i n → SizedSoFar w terms (i + 1) n
-step_sized w terms i size n e k s h =
+pub as_so_far : (w : Weights) (terms : List Term) (room : List Summand) (i : ℕ) (z size : ℤ) → z ≡ size → SizedSoFar w terms room i size → SizedSoFar w terms room i z
+as_so_far w terms room i z size e s = subst (λ (z : ℤ). SizedSoFar w terms room i z) (sym e) s
+
+pub step_sized : (w : Weights) (terms : List Term) (old new : List Summand) (i : ℕ) (size n : ℤ) → length w.multipliers.now ≡ length w.literals.now → i < length w.literals.now → SizedSoFar w terms old i size → IsNextSized w terms i n → AreCleared old new (place_units w terms i) → SizedSoFar w terms new (i + 1) n
+step_sized w terms old new i size n e k s h c =
     let known : IsNextKnown w terms i = record { fit = h.fit; known = λ p. fits_within n (first_total w terms (i + 1) p) h.size_fits (h.within p) } in
-    record { reached = next_known w terms i e k s.reached known; sized = record { within = h.within; size_fits = h.size_fits } }
+    record { reached = next_known w terms i e k s.reached known; sized = record { within = h.within; size_fits = h.size_fits }; clearing = next_clearing w terms old new i e k s.clearing c }
 
-pub all_sized : (w : Weights) (terms : List Term) (i : ℕ) (size : ℤ) → length w.multipliers.now ≡ length w.literals.now → length w.literals.now ≤ i → SizedSoFar w terms i size → IsAllKnown w terms
-all_sized w terms i size e h s = all_known w terms i e h s.reached
+pub all_sized : (w : Weights) (terms : List Term) (room : List Summand) (i : ℕ) (size : ℤ) → length w.multipliers.now ≡ length w.literals.now → length w.literals.now ≤ i → SizedSoFar w terms room i size → IsAllKnown w terms
+all_sized w terms room i size e h s = all_known w terms i e h s.reached
+
+pub whole_clear : (w : Weights) (terms : List Term) (room : List Summand) (i : ℕ) (size : ℤ) → length w.multipliers.now ≡ length w.literals.now → length w.literals.now ≤ i → SizedSoFar w terms room i size → AreClear room (every_unit w terms)
+whole_clear w terms room i size e h s = all_clear w terms room i e h s.clearing

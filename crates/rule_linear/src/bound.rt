@@ -85,7 +85,7 @@ pub fn bound_part(terms: &Graph, b: Bound, part: Part) -> i128
 }
 
 /// The part of the 1 of a strict bound.
-fn part_of_one(strict: bool, part: Part) -> i128
+pub fn part_of_one(strict: bool, part: Part) -> i128
     ensures { result ≡ one_of strict part }
 {
     match part {
@@ -119,7 +119,7 @@ pub fn total_part(terms: &Graph, weights: Weights<'_>, end: usize, part: Part) -
 }
 
 /// The sum with a multiple of the number, modulo 2^128.
-fn add_multiple(sum: i128, m: i128, number: i128) -> i128
+pub fn add_multiple(sum: i128, m: i128, number: i128) -> i128
     ensures { result ≡ int_wrap w128 (sum +ℤ m *ℤ number) }
 {
     wrapped_sum(sum, wrapped_product(m, number))

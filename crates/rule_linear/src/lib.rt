@@ -7,6 +7,7 @@ pub mod cut;
 pub mod form;
 pub mod linear;
 mod one_pass;
+mod room;
 mod sizes;
 pub mod split;
 pub mod steps;

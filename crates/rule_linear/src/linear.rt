@@ -2,6 +2,7 @@
 
 ghost use Rattle.std.specs.Prelude.{◌≡◌, ◌↔◌, IsTrue, IfOk, IfErr, length};
 ghost use Rattle.vcc_rules.specs.Law.{AreSortsOf, IsWithin};
+ghost use Rattle.rule_linear.specs.Coefficients.{AreClear, every_unit};
 ghost use Rattle.rule_linear.specs.Rows.{IsLinear, LinearLeaves};
 ghost use Rattle.rule_linear.specs.Sides.{Reach};
 ghost use Rattle.rule_linear.specs.Sound.{linear_sound};
@@ -57,13 +58,16 @@ impl<'a> Rule for Linear<'a> {
     ghost sound = { λ rule language terms earlier below detail clause suits. linear_sound language rule.sorts.now terms earlier.root earlier.list.items below detail clause };
 }
 
-/// Whether the size of the sum of the multiples fits, and so do all numbers on the way to it.
-fn fits(terms: &Graph, weights: Weights<'_>) -> bool
+/// Whether the size of the sum of the multiples fits, and so do all numbers on the way to it. Where it does, each unit of
+/// the literals' bounds has the coefficient 0 afterwards.
+fn fits(terms: &Graph, weights: Weights<'_>, room: &mut [Summand]) -> bool
     requires within { IsWithin (length terms.now) weights.literals.now }
     requires lengths { length weights.multipliers.now ≡ length weights.literals.now }
-    ensures { IsTrue result → IsAllKnown weights.entry terms.now }
+    requires room { length room.old ≡ length terms.now }
+    ensures known { IsTrue result → IsAllKnown weights.entry terms.now }
+    ensures clear { IsTrue result → AreClear room.new (every_unit weights.entry terms.now) }
 {
-    match total_size(terms, weights) {
+    match total_size(terms, weights, room) {
         Ok(_) => true,
         Err(_) => false,
     }
@@ -84,7 +88,7 @@ fn is_linear(terms: &Graph, weights: Weights<'_>, room: &mut [Summand]) -> Resul
     if !are_weights(terms, weights) {
         return Ok(false);
     }
-    if fits(terms, weights) {
+    if fits(terms, weights, room) {
         return Ok(sums_up(terms, weights, room));
     }
     add_up(terms, weights)?;

@@ -6,8 +6,8 @@ use Rattle.rule_linear.specs.Sizes.{IsMoreSized}
 use Rattle.rule_linear.proofs.Sized.{more_sized}
 use Rattle.rule_linear.proofs.sizes.more_size.Goals as goal
 
-pub returns : goal.returns
-returns c =
+pub returns-clause-size : goal.returns-clause-size
+returns-clause-size c =
     let m = c.ranges.m in
     let b = c.ranges.before in
     let k : SFits w128 c.in_ok-factor.factor = search rules in
@@ -18,4 +18,4 @@ returns c =
     let g = c.in_ok-product.ensures in
     let h = c.in_ok-size.ensures in
     subst (λ z. IsMoreSized c.args.weights c.args.terms.now c.args.end c.args.m c.args.b z) (sym (to_z-of_z w128 c.in_ok-size.size n))
-    (more_sized c.args.weights c.args.terms.now c.args.end c.args.m c.args.b c.args.before c.in_ok-factor.factor c.in_ok-of.of c.in_ok-product.product c.in_ok-size.size c.requires.before (simp to_z-of_z at f) c.in_ok-of.ensures (simp to_z-of_z at g) p (simp to_z-of_z at h) n)
+    (more_sized c.args.weights c.args.terms.now c.args.end c.args.m c.args.b c.args.before c.in_ok-factor.factor c.in_ok-of.of c.in_ok-product.product c.in_ok-size.size c.requires.before (simp to_z-of_z at f) c.in_ok-of.ensures.size (simp to_z-of_z at g) p (simp to_z-of_z at h) n)
