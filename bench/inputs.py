@@ -4,6 +4,8 @@
 usage: inputs.py copies N          the source of `vcc gen N`: N copies of a lock with its workers, and of a counter
        inputs.py function N        a source of one function of N statements: stores, reads and sums, one condition and more for each
        inputs.py certificate MIB   the text of a certificate of at most so many MiB: the blocks of examples/lock.cert again and again
+       inputs.py linear LITERALS   the text of a certificate of examples/first.c that refutes nothing: a million literals in steps `linear` of so many over
+                                   sums of 4 terms, or none at all for 0
        inputs.py every VERSION     the text of a certificate of this version in which every kind of term and every rule stands; it proves nothing
 """
 import re
@@ -46,6 +48,37 @@ def certificate(mebibytes):
     yield "end\n"
 
 
+def linear(literals):
+    """A ring of sums of 4 constants, each at most the next and the last below the first, denied in each step; first.c's condition has 13 terms."""
+    width, terms = 4, []
+
+    def term(text):
+        terms.append(f"t {text}\n")
+        return 12 + len(terms)
+
+    def total(place):
+        units = [term(f"ci {1000 + place * width + unit}") for unit in range(width)]
+        left = units[0]
+        for unit in units[1:]:
+            left = term(f"add {left} {unit}")
+        return left
+
+    count = 0
+    if literals:
+        sums = [total(place) for place in range(literals)]
+        denied = [term(f"le {left} {right}") for left, right in zip(sums, sums[1:])]
+        one = term("int 1")
+        more = term(f"add {sums[-1]} {one}")
+        denied.append(term(f"le {more} {sums[0]}"))
+        step = f"s linear{' 1' * literals} ={''.join(f' -{number}' for number in denied)}\n"
+        count = 1_000_000 // literals
+    yield f"vcc-cert 1\nconditions 1\ncondition {len(terms)} {count} {count * literals}\n"
+    yield from terms
+    for _ in range(count):
+        yield step
+    yield "end\n"
+
+
 def derivation(name, names, rules):
     """A lemma or block of every kind of term and of these rules, with the least and the greatest number that fits."""
     least, greatest = -(2**127), 2**127 - 1
@@ -81,7 +114,7 @@ def every(version):
     yield "end\n"
 
 
-KINDS = {"copies": copies, "function": function, "certificate": certificate, "every": every}
+KINDS = {"copies": copies, "function": function, "certificate": certificate, "linear": linear, "every": every}
 
 if len(sys.argv) != 3 or sys.argv[1] not in KINDS or not sys.argv[2].isdecimal():
     sys.exit(__doc__)
