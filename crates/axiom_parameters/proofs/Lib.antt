@@ -1,0 +1,4 @@
+pub mod Sorts
+pub mod Kit
+pub mod Rows
+pub mod Instances

@@ -1,0 +1,4 @@
+pub mod Conclusions
+pub mod Lemmas
+pub mod Upgrade
+pub mod Held

@@ -1,0 +1,15 @@
+pub mod Lists
+pub mod Numbering
+pub mod Trees
+pub mod Tables
+pub mod Instances
+pub mod LemmaSteps
+pub mod Chosen
+pub mod LemmaTheorems
+pub mod Plain
+pub mod Fitting
+pub mod LemmaTexts
+pub mod Blocks
+pub mod Back
+pub mod Kept
+pub mod Certificates
