@@ -1,0 +1,4 @@
+pub mod Parameters
+pub mod Marks
+pub mod Trees
+pub mod Nodes

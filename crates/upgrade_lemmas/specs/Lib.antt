@@ -1,0 +1,4 @@
+pub mod Made
+pub mod Chosen
+pub mod Making
+pub mod Cited

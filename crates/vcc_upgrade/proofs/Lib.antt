@@ -1,0 +1,4 @@
+pub mod Lists
+pub mod Surveys
+pub mod Written
+pub mod Counts
