@@ -93,7 +93,7 @@ const ROWS: &[(&str, &str, &str, u8)] = &[
 ];
 
 const USAGE: &str =
-    "usage: vcc check SOURCE CERT, verify SOURCE CERT [--leaves N] [--rounds N], run SOURCE SCHEDULE, gen N\n";
+    "usage: vcc check SOURCE CERT, verify SOURCE CERT [--leaves N] [--rounds N], run SOURCE SCHEDULE, gen N, upgrade SOURCE CERT NEW\n";
 
 /// Names with the texts that they hold.
 pub type Held<'a> = &'a [(&'a str, &'a str)];
@@ -254,6 +254,20 @@ const NO_COMMANDS: &[&[&str]] = &[
     &["gen", "1", "2"],
     &["gen", "--leaves", "5"],
     &["Gen", "1"],
+    &["upgrade"],
+    &["upgrade", "s.c"],
+    &["upgrade", "s.c", "C"],
+    &["upgrade", "s.c", "C", "s.c"],
+    &["upgrade", "s.c", "C", "C"],
+    &["upgrade", "s.c", "C", "N", "x"],
+    &["upgrade", "s.c", "C", "N", "--leaves", "5"],
+    &["upgrade", "s.c", "C", ""],
+    &["upgrade", "s.c", "", "N"],
+    &["upgrade", "", "C", "N"],
+    &["upgrade", "s.c", "C", "-N"],
+    &["upgrade", "s.c", "-", "N"],
+    &["upgrade", "-s.c", "C", "N"],
+    &["Upgrade", "s.c", "C", "N"],
 ];
 
 /// Both names.

@@ -1,4 +1,4 @@
-//! Tests of the commands `check` and `verify`, apart from its crate: a crate with tests is proved twice.
+//! Tests of the commands `check`, `verify` and `upgrade`, apart from its crate: a crate with tests is proved twice.
 #![tactic(auto)]
 
 #[cfg(test)]
@@ -25,3 +25,5 @@ mod steps;
 mod translation;
 #[cfg(test)]
 mod typing;
+#[cfg(test)]
+mod upgrades;

@@ -9,6 +9,8 @@ pub mod Verdicts
 pub mod Accepting
 pub mod Runs
 pub mod Searching
+pub mod CertificateTexts
+pub mod Upgrading
 pub mod Generating
 pub mod Commands
 pub mod Replaying

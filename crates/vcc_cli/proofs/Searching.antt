@@ -88,7 +88,7 @@ module _ (m : Map) (source_name cert_name : List ℕ) (p : Program) (holds : Hol
 -- ---- status 0
 
 -- a write fault has another status
-no_zero_line : (text : List ℕ) (w : Written) (status : ℕ) → IsReportedLine text 7 w status → status ≡ 0 → ⊥
+pub no_zero_line : (text : List ℕ) (w : Written) (status : ℕ) → IsReportedLine text 7 w status → status ≡ 0 → ⊥
 no_zero_line text w status (inl whole) zeroed = let seven : status ≡ 7 = whole.0 in omega (arith, seven, zeroed)
 no_zero_line text w status (inr (inl failed)) zeroed = let seven : status ≡ 7 = failed.0 in omega (arith, seven, zeroed)
 no_zero_line text w status (inr (inr wanting)) zeroed = let eight : status ≡ 8 = wanting.0 in omega (arith, eight, zeroed)

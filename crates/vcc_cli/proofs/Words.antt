@@ -2,7 +2,7 @@
 use Rattle.std.proofs.Common.{◌≡◌, ℕ, ◌+◌, Bool, true, false, ◌==◌, if◌then◌else◌, List, [], ◌∷◌, ◌++◌, length, flat_map, codes, decimal, slice_index, refl, ap, sym, ◌∙◌, subst, ne_eqb, arith}
 use Rattle.std.proofs.lemmas.List.{length-append}
 use Rattle.std.proofs.lemmas.Fmt.{decimal_injective}
-use Rattle.vcc_words.specs.Words.{IsName, IsNamedPair, IsCheck, IsGen, IsVerify, IsRunCommand, Part, Name, Leaves, LeavesIs, Rounds, RoundsIs, spelling, names}
+use Rattle.vcc_words.specs.Words.{IsName, IsNamedPair, IsCheck, IsGen, IsUpgrade, IsVerify, IsRunCommand, Part, Name, Leaves, LeavesIs, Rounds, RoundsIs, spelling, names}
 
 -- ---- no two commands
 
@@ -40,6 +40,30 @@ unfolding first_length
 verify_or_gen words source cert leaves rounds copies verify gen =
     let both : 6 ≡ 3 = sym (ap first_length verify.are) ∙ ap first_length gen.are in
     omega (arith, both)
+
+-- words of a pair, and those of a gen, are fewer than those of an upgrade
+pub pair_or_upgrade : (command : List ℕ) (words : List (List ℕ)) (a b source cert new : List ℕ) → IsNamedPair command words a b → IsUpgrade words source cert new → ⊥
+pair_or_upgrade command words a b source cert new pair upgrade =
+    let both : 3 ≡ 4 = sym (ap length pair.are) ∙ ap length upgrade.are in
+    omega (arith, both)
+
+pub upgrade_or_gen : (words : List (List ℕ)) (source cert new : List ℕ) (copies : ℕ) → IsUpgrade words source cert new → IsGen words copies → ⊥
+upgrade_or_gen words source cert new copies upgrade gen =
+    let both : 4 ≡ 2 = sym (ap length upgrade.are) ∙ ap length gen.are in
+    omega (arith, both)
+
+pub verify_or_upgrade : (words : List (List ℕ)) (a b source cert new : List ℕ) (leaves rounds : ℕ) → IsVerify words a b leaves rounds → IsUpgrade words source cert new → ⊥
+unfolding first_length
+verify_or_upgrade words a b source cert new leaves rounds verify upgrade =
+    let both : 6 ≡ 7 = sym (ap first_length verify.are) ∙ ap first_length upgrade.are in
+    omega (arith, both)
+
+-- ---- the names of an upgrade
+
+pub one_upgrade : (words : List (List ℕ)) (source cert new a b c : List ℕ) → IsUpgrade words source cert new → IsUpgrade words a b c → (source ≡ a) × (cert ≡ b) × (new ≡ c)
+one_upgrade words source cert new a b c one other =
+    let both : codes "upgrade" ∷ source ∷ cert ∷ new ∷ [] ≡ codes "upgrade" ∷ a ∷ b ∷ c ∷ [] = sym one.are ∙ other.are in
+    (cc both, cc both, cc both)
 
 -- ---- the number of a gen
 

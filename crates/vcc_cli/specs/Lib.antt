@@ -8,5 +8,7 @@ pub mod Lines
 pub mod Run
 pub mod Replays
 pub mod Searches
+pub mod Upgrades
+pub mod SecondVersions
 pub mod Generated
 pub mod Ends

@@ -61,7 +61,7 @@ wide_line left right = codes "limit: Wide " ++ (signed_decimal left ++ (codes " 
 abbrev pub line_of : Result Verdict Refusal → List ℕ
 line_of (Ok Yes) = line (codes "yes")
 line_of (Ok (No failing)) = no_line failing
-line_of (Err Usage) = line (codes "usage: vcc check SOURCE CERT, verify SOURCE CERT [--leaves N] [--rounds N], run SOURCE SCHEDULE, gen N")
+line_of (Err Usage) = line (codes "usage: vcc check SOURCE CERT, verify SOURCE CERT [--leaves N] [--rounds N], run SOURCE SCHEDULE, gen N, upgrade SOURCE CERT NEW")
 line_of (Err (BadByte place)) = source_line place (codes "token") 1
 line_of (Err (BadNumber place)) = source_line place (codes "token") 2
 line_of (Err (OpenComment place)) = source_line place (codes "token") 3

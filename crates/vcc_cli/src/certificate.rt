@@ -32,7 +32,7 @@ use vcc_judge::trial::Trial;
 use vcc_judge::verdict::{JudgeFault, Verdict};
 
 /// The refusal of a certificate with this fault.
-fn refusal_of<'a>(fault: CertFault) -> Refusal<'a>
+pub(crate) fn refusal_of<'a>(fault: CertFault) -> Refusal<'a>
     ensures { (bytes : List ℕ) → IsFirstFault fault (decoded bytes) → IsNoCertificate bytes result }
 {
     match fault {

@@ -2,6 +2,7 @@
 #![tactic(auto)]
 
 pub mod certificate;
+mod certificate_text;
 pub mod check;
 mod copies;
 pub mod labels;
@@ -11,6 +12,7 @@ pub mod program;
 pub mod refusal;
 pub mod report;
 mod run;
+mod upgrade;
 pub mod verdict;
 mod verify;
 

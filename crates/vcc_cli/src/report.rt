@@ -207,7 +207,7 @@ fn put_answer<O: Sink>(
         Ok(Verdict::No(failing)) => put_no(out, failing),
         Err(Refusal::Usage) => put_all(
             out,
-            b"usage: vcc check SOURCE CERT, verify SOURCE CERT [--leaves N] [--rounds N], run SOURCE SCHEDULE, gen N\n",
+            b"usage: vcc check SOURCE CERT, verify SOURCE CERT [--leaves N] [--rounds N], run SOURCE SCHEDULE, gen N, upgrade SOURCE CERT NEW\n",
         ),
         Err(Refusal::BadByte(place)) => put_fault(out, place, b"token", 1),
         Err(Refusal::BadNumber(place)) => put_fault(out, place, b"token", 2),

@@ -22,7 +22,7 @@ use vcc_verify::verify::verify as verify_program;
 use vcc_words::command::Search;
 
 /// Reports that the store didn't take a write to this name, and gives the status.
-fn report_write_fault<O: Sink>(out: &mut O, cert: &str) -> u8
+pub(crate) fn report_write_fault<O: Sink>(out: &mut O, cert: &str) -> u8
     ensures reported { IsReportedLine (write_fault_line cert.now) 7
         (wrote (O.faults out.old) (O.faults out.new) (O.written out.old) (O.written out.new)) result }
     ensures never_falls { O.faults out.old ≤ O.faults out.new }

@@ -2,7 +2,7 @@
 use Rattle.std.specs.Prelude.{◌≡◌, ◌≢◌, ◌⊎◌, ℕ, ◌<◌, ◌≤◌, List, [], ◌∷◌, ◌++◌, length, map, flat_map, slice_index, codes, decimal, Option, Some, None, String, string_bytes}
 use Rattle.std.specs.declared.alloc.Global.{Global}
 use Rattle.vcc_words.specs.declared.command.Command.{Command}
-use Rattle.vcc_words.specs.declared.command.Command.TheVariants.{Check, Verify, Run, Gen}
+use Rattle.vcc_words.specs.declared.command.Command.TheVariants.{Check, Verify, Upgrade, Run, Gen}
 
 -- the bytes of the words
 abbrev pub texts : List (String Global) → List (List ℕ)
@@ -27,6 +27,17 @@ IsCheck words source cert = IsNamedPair (codes "check") words source cert
 -- `run SOURCE SCHEDULE`
 abbrev pub IsRunCommand : List (List ℕ) → List ℕ → List ℕ → Type 0
 IsRunCommand words source schedule = IsNamedPair (codes "run") words source schedule
+
+-- ---- three names
+
+-- `upgrade SOURCE CERT NEW`: the new name is neither of the other two
+pub record IsUpgrade (words : List (List ℕ)) (source cert new : List ℕ) : Type 0 where
+  pub are : words ≡ codes "upgrade" ∷ source ∷ cert ∷ new ∷ []
+  pub source_name : IsName source
+  pub cert_name : IsName cert
+  pub new_name : IsName new
+  pub not_source : new ≢ source
+  pub not_cert : new ≢ cert
 
 -- ---- names and options
 
@@ -102,6 +113,7 @@ pub record IsGen (words : List (List ℕ)) (copies : ℕ) : Type 0 where
 abbrev pub IsCommand : List (List ℕ) → Command → Type 0
 IsCommand words (Check pair) = IsCheck words pair.source.now pair.other.now
 IsCommand words (Verify search) = IsVerify words search.source.now search.cert.now search.leaves search.rounds
+IsCommand words (Upgrade names) = IsUpgrade words names.source.now names.cert.now names.new.now
 IsCommand words (Run pair) = IsRunCommand words pair.source.now pair.other.now
 IsCommand words (Gen copies) = IsGen words copies
 
@@ -109,6 +121,7 @@ IsCommand words (Gen copies) = IsGen words copies
 pub record IsNoCommand (words : List (List ℕ)) : Type 0 where
   pub no_check : (source cert : List ℕ) → IsCheck words source cert → ⊥
   pub no_verify : (source cert : List ℕ) (leaf_count round_count : ℕ) → IsVerify words source cert leaf_count round_count → ⊥
+  pub no_upgrade : (source cert new : List ℕ) → IsUpgrade words source cert new → ⊥
   pub no_run : (source schedule : List ℕ) → IsRunCommand words source schedule → ⊥
   pub no_gen : (copies : ℕ) → IsGen words copies → ⊥
 

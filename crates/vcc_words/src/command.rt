@@ -19,6 +19,15 @@ pub struct Search<'a> {
     pub rounds: u32,
 }
 
+/// The names of an upgrade.
+#[derive(Clone, Copy)]
+pub struct Rewriting<'a> {
+    pub source: &'a str,
+    pub cert: &'a str,
+    /// Of the certificate that is written: neither of the other two.
+    pub new: &'a str,
+}
+
 /// A command.
 #[derive(Clone, Copy)]
 pub enum Command<'a> {
@@ -26,6 +35,8 @@ pub enum Command<'a> {
     Check(Pair<'a>),
     /// Search the certificate of a source.
     Verify(Search<'a>),
+    /// Write the certificate of a source anew, with lemmas.
+    Upgrade(Rewriting<'a>),
     /// Replay a schedule on a source.
     Run(Pair<'a>),
     /// Verify a source of so many copies: 1 to 50.

@@ -7,5 +7,6 @@ mod copies;
 mod names;
 mod read;
 mod search;
+mod upgrade;
 
 pub use read::read_command;

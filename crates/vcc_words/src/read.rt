@@ -9,6 +9,7 @@ use crate::command::{Command, Search};
 use crate::copies::copy_count;
 use crate::names::named_pair;
 use crate::search::search_of;
+use crate::upgrade::upgrade_names;
 use std::alloc::{AllocError, Global};
 
 /// The words behind `verify`.
@@ -60,6 +61,9 @@ pub fn read_command<'a>(
 {
     if let Some(pair) = named_pair(words, "check") {
         return Ok(Some(Command::Check(pair)));
+    }
+    if let Some(names) = upgrade_names(words) {
+        return Ok(Some(Command::Upgrade(names)));
     }
     if let Some(pair) = named_pair(words, "run") {
         return Ok(Some(Command::Run(pair)));

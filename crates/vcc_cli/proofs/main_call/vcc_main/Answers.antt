@@ -1,7 +1,7 @@
 use Rattle.std.proofs.Common.{inl, inr}
 use Rattle.vcc_words.specs.Words.{texts}
 use Rattle.vcc_cli.specs.declared.refusal.Refusal.TheVariants.{OutOfMemory, Usage}
-use Rattle.vcc_cli.proofs.Commands.{accepted_command, complete_command, exact_command, generated_command, is_command, is_none, kept_command, safe_command, verified_command, wanting_complete}
+use Rattle.vcc_cli.proofs.Commands.{accepted_command, complete_command, exact_command, generated_command, is_command, is_none, kept_command, safe_command, upgraded_command, verified_command, wanting_complete}
 use Rattle.vcc_cli.proofs.Generating.{refusal_shows}
 use Rattle.vcc_cli.proofs.Verdicts.{no_zero}
 use Rattle.vcc_cli.proofs.main_call.vcc_main.Goals as goal
@@ -33,15 +33,20 @@ returns-in-Ok-Some-clause-generated g c = λ copies gen.
     let command = c.in-Ok-Some.command in
     generated_command (texts c.args.words.now) copies _ _ command (is_command _ _ command c.in-Ok-Some.field-0-is c.in-Ok-Some.ensures) gen c.run_command-status.ensures.generates
 
+pub returns-in-Ok-Some-clause-upgraded : goal.returns-in-Ok-Some-clause-upgraded
+returns-in-Ok-Some-clause-upgraded g c = λ m given source cert new upgrade zeroed.
+    let command = c.in-Ok-Some.command in
+    upgraded_command m (texts c.args.words.now) command _ source cert new (is_command _ _ command c.in-Ok-Some.field-0-is c.in-Ok-Some.ensures) upgrade (c.run_command-status.ensures.shows m given zeroed)
+
 pub returns-in-Ok-Some-clause-exact : goal.returns-in-Ok-Some-clause-exact
 returns-in-Ok-Some-clause-exact g c = λ m given.
     let command = c.in-Ok-Some.command in
     exact_command m (texts c.args.words.now) _ _ _ _ command (is_command _ _ command c.in-Ok-Some.field-0-is c.in-Ok-Some.ensures) (c.run_command-status.ensures.ends m given)
 
 pub returns-in-Ok-Some-clause-kept : goal.returns-in-Ok-Some-clause-kept
-returns-in-Ok-Some-clause-kept g c = λ other.
+returns-in-Ok-Some-clause-kept g c = λ no_verify no_upgrade.
     let command = c.in-Ok-Some.command in
-    kept_command (texts c.args.words.now) command _ _ (is_command _ _ command c.in-Ok-Some.field-0-is c.in-Ok-Some.ensures) other c.run_command-status.ensures.keeps
+    kept_command (texts c.args.words.now) _ _ no_verify no_upgrade command (is_command _ _ command c.in-Ok-Some.field-0-is c.in-Ok-Some.ensures) c.run_command-status.ensures.keeps
 
 -- ---- none
 
@@ -60,6 +65,9 @@ returns-in-Ok-None-clause-verified g c = λ m given source cert leaves rounds ve
 
 pub returns-in-Ok-None-clause-generated : goal.returns-in-Ok-None-clause-generated
 returns-in-Ok-None-clause-generated g c = λ copies gen. refusal_shows copies Usage _ _ c.report-status.ensures.reported
+
+pub returns-in-Ok-None-clause-upgraded : goal.returns-in-Ok-None-clause-upgraded
+returns-in-Ok-None-clause-upgraded g c = λ m given source cert new upgrade zeroed. absurd (no_zero Usage _ _ c.report-status.ensures.reported zeroed)
 
 pub returns-in-Ok-None-clause-exact : goal.returns-in-Ok-None-clause-exact
 returns-in-Ok-None-clause-exact g c = λ m given.
@@ -82,5 +90,8 @@ returns-in-Err-clause-verified g c = λ m given source cert leaves rounds verify
 pub returns-in-Err-clause-generated : goal.returns-in-Err-clause-generated
 returns-in-Err-clause-generated g c = λ copies gen. refusal_shows copies OutOfMemory _ _ c.report-status-in-Err.ensures.reported
 
+pub returns-in-Err-clause-upgraded : goal.returns-in-Err-clause-upgraded
+returns-in-Err-clause-upgraded g c = λ m given source cert new upgrade zeroed. absurd (no_zero OutOfMemory _ _ c.report-status-in-Err.ensures.reported zeroed)
+
 pub returns-in-Err-clause-exact : goal.returns-in-Err-clause-exact
-returns-in-Err-clause-exact g c = λ m given. inr (inr (inr (inr (inr c.report-status-in-Err.ensures.reported))))
+returns-in-Err-clause-exact g c = λ m given. inr (inr (inr (inr (inr (inr c.report-status-in-Err.ensures.reported)))))
