@@ -1,0 +1,51 @@
+-- What fine steps come to. Own.
+use Rattle.std.specs.Prelude.{◌≡◌, ◌⊎◌, List}
+use Rattle.object_types.specs.declared.values.Value.{Value}
+use Rattle.method.specs.declared.program.Program.{Program}
+use Rattle.method.specs.Legal.{Good}
+use Rattle.method.specs.Machine.{State, Event, NotEnabled, step, IsStart, Safe, run}
+use Rattle.method.specs.Scopes.{Scoped}
+use Rattle.method.specs.Typing.{WellTyped}
+use Rattle.method.specs.Trace.{Memory}
+use Rattle.condition_meaning.specs.Promises.{ConditionsAreValid}
+use Rattle.conditions_law.specs.Texts.{TextFits}
+use Rattle.safe_counter.specs.Shared.{program}
+use Rattle.grain_law.specs.FineSteps.{SafeInFineSteps, fine_step, fine_run, fine_start}
+
+-- a program that is safe is safe in fine steps
+abbrev pub SafeIsSafeInFineSteps : Type 0
+SafeIsSafeInFineSteps = (p : Program) → WellTyped p → Safe p → SafeInFineSteps p
+
+-- and where it is safe in fine steps it is safe: fine steps ask no less
+abbrev pub SafeInFineStepsIsSafe : Type 0
+SafeInFineStepsIsSafe = (p : Program) → SafeInFineSteps p → Safe p
+
+-- Some fine steps that leave the state as it is, and behind them an event to which the answer is the machine's: the next state with its line, or a fault with its kind and line.
+pub record AnswersInFineSteps (p : Program) (s : State) (e : Event) : Type 0 where
+  pub before : List Event
+  pub choices : List Value
+  pub stays : (fine_run p before (fine_start s)).state ≡ s
+  pub answers : (fine_step p (fine_run p before (fine_start s)) (record { thread = e.thread; choices = choices })).answer ≡ step p s e
+
+-- from any state of any program, each event that the machine enables is so in fine steps
+abbrev pub StepsAreFineSteps : Type 0
+StepsAreFineSteps = (p : Program) (s : State) (e : Event) → (step p s e ≡ NotEnabled) ⊎ AnswersInFineSteps p s e
+
+-- so each run of the machine is one in fine steps
+abbrev pub RunsAreFineRuns : Type 0
+RunsAreFineRuns =
+    (p : Program) (s : State) (events : List Event) → (fine_events : List Event) × ((fine_run p fine_events (fine_start s)).state ≡ run p events s)
+
+-- in fine steps a safe program comes to no state but those of the machine's runs
+abbrev pub FineRunsAreRuns : Type 0
+FineRunsAreRuns =
+    (p : Program) → WellTyped p → Safe p → (s : State) → IsStart p s → Good p s.heap → (events : List Event) →
+    (machine_events : List Event) × ((fine_run p events (fine_start s)).state ≡ run p machine_events s)
+
+-- a program whose conditions are all valid is safe in fine steps
+abbrev pub ConditionsMeanSafeInFineSteps : Type 0
+ConditionsMeanSafeInFineSteps = (p : Program) → WellTyped p → Scoped p → TextFits p → ConditionsAreValid p → SafeInFineSteps p
+
+-- so is the program of two threads that write one object (safe_counter)
+abbrev pub SharedIsSafeInFineSteps : Type 0
+SharedIsSafeInFineSteps = (m : Memory) → SafeInFineSteps (program m)

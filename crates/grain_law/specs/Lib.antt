@@ -1,0 +1,5 @@
+pub mod FieldReads
+pub mod Plans
+pub mod FineSteps
+pub mod Laws
+pub mod Rows
