@@ -21,12 +21,10 @@ use Rattle.machine_laws.proofs.Legality.{StateOk, frames_ok, start_ok, run_ok}
 use Rattle.machine_laws.proofs.Reliance.{steps_are_relied}
 use Rattle.modular_law.proofs.Law.{has_frames}
 use Rattle.conditions_law.proofs.Safety.{conditions_mean_safe}
-use Rattle.safe_counter.proofs.Safe.{shared_is_safe}
-use Rattle.safe_counter.specs.Shared.{program}
 use Rattle.grain_law.specs.FieldReads.{Reading, Refuses, Reads, Ends}
 use Rattle.grain_law.specs.Plans.{Finish, item_fits, item_line, turn_plan}
 use Rattle.grain_law.specs.FineSteps.{FineState, FineStep, with_reads, next_by, next_state, end_step, frames_step, fine_step, fine_run, fine_start}
-use Rattle.grain_law.specs.Laws.{SafeIsSafeInFineSteps, FineRunsAreRuns, ConditionsMeanSafeInFineSteps, SharedIsSafeInFineSteps}
+use Rattle.grain_law.specs.Laws.{SafeIsSafeInFineSteps, FineRunsAreRuns, ConditionsMeanSafeInFineSteps}
 use Rattle.grain_law.proofs.Traces.{Fails, Prefixed, one_more}
 use Rattle.grain_law.proofs.Items.{Sound, works, reading, reading_sound, comes_from, can_fit}
 use Rattle.grain_law.proofs.Others.{reads_stay}
@@ -235,6 +233,3 @@ fine_runs_are_runs p typed safe s start good events = let ok = run_fine p typed 
 
 pub conditions_mean_safe_in_fine_steps : ConditionsMeanSafeInFineSteps
 conditions_mean_safe_in_fine_steps p typed scoped text valid = safe_is_safe_in_fine_steps p typed (conditions_mean_safe p typed scoped text valid)
-
-pub shared_is_safe_in_fine_steps : SharedIsSafeInFineSteps
-shared_is_safe_in_fine_steps m = safe_is_safe_in_fine_steps (program m) (shared_is_safe m).typed (shared_is_safe m).safe

@@ -6,10 +6,8 @@ use Rattle.method.specs.Legal.{Good}
 use Rattle.method.specs.Machine.{State, Event, NotEnabled, step, IsStart, Safe, run}
 use Rattle.method.specs.Scopes.{Scoped}
 use Rattle.method.specs.Typing.{WellTyped}
-use Rattle.method.specs.Trace.{Memory}
 use Rattle.condition_meaning.specs.Promises.{ConditionsAreValid}
 use Rattle.conditions_law.specs.Texts.{TextFits}
-use Rattle.safe_counter.specs.Shared.{program}
 use Rattle.grain_law.specs.FineSteps.{SafeInFineSteps, fine_step, fine_run, fine_start}
 
 -- a program that is safe is safe in fine steps
@@ -45,7 +43,3 @@ FineRunsAreRuns =
 -- a program whose conditions are all valid is safe in fine steps
 abbrev pub ConditionsMeanSafeInFineSteps : Type 0
 ConditionsMeanSafeInFineSteps = (p : Program) → WellTyped p → Scoped p → TextFits p → ConditionsAreValid p → SafeInFineSteps p
-
--- so is the program of two threads that write one object (safe_counter)
-abbrev pub SharedIsSafeInFineSteps : Type 0
-SharedIsSafeInFineSteps = (m : Memory) → SafeInFineSteps (program m)

@@ -3,3 +3,4 @@ pub mod Plans
 pub mod FineSteps
 pub mod Laws
 pub mod Rows
+pub mod Samples

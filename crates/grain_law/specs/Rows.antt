@@ -13,6 +13,7 @@ use Rattle.method.specs.declared.program.Spec.TheVariants.{Number as Number', Va
 use Rattle.method.specs.declared.program.Target.TheVariants.{Local}
 use Rattle.method.specs.declared.program.RightSide.TheVariants.{Compute, Malloc}
 use Rattle.method.specs.declared.program.Simple.TheVariants.{Assign}
+use Rattle.method.specs.declared.program.Action.{Action}
 use Rattle.method.specs.declared.program.Action.TheVariants.{Simply, Define}
 use Rattle.method.specs.declared.program.Stmt.{Stmt, end_of-Stmt, more_of-Stmt}
 use Rattle.method.specs.declared.program.Stmt.TheVariants.{Do, If', While'}
@@ -155,6 +156,24 @@ module _ (m : Memory) where
   pub sum_ten : variables_of (fine_run both (goes ∷ goes ∷ []) ten_read) ≡ (Refers (ref 3 1) ∷ Int (pos 13) ∷ []) ∷ []
   unfolding in_type same_ref put is_in inv_holds hand_over in_stable_set
   sum_ten = refl
+
+  -- Two reads in a comparison, which a program may make (Samples).
+  -- void main() {
+  --   struct A *p = malloc(sizeof(struct A));      line 3
+  --   if (p != NULL) {                             line 5
+  --     int s = p->x == p->y; } }                  line 6
+  abbrev pub compares : Action
+  compares = Define 1 (Compute (Compare' Equal (box m) (Field' (box m) (Variable 0) 0) (box m) (Field' (box m) (Variable 0) 1)))
+
+  abbrev pub main_equality : FunctionInfo
+  main_equality = main_of (variable_of 3 ∷ number_variable ∷ []) (allocates ∷ when_there (Do 6 compares) ∷ [])
+
+  abbrev pub equality : Program
+  equality = program_of main_equality
+
+  pub runs_equality : fine_trace equality (two_three ∷ goes ∷ goes ∷ goes ∷ goes ∷ goes ∷ []) (start_of main_equality) ≡ (Line 3, 0) ∷ (Line 5, 0) ∷ (Line 6, 1) ∷ (Line 6, 2) ∷ (Line 6, 0) ∷ (Line 6, 0) ∷ []
+  unfolding in_type same_ref put is_in inv_holds hand_over in_stable_set
+  runs_equality = refl
 
   -- A fault at the second read: the same with `struct A *q = NULL;` in line 4 too, and q->y for p->y.
   abbrev pub main_null : FunctionInfo

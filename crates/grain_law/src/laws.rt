@@ -1,6 +1,7 @@
 //! The laws, as contracts of functions that do nothing.
 
-ghost use Rattle.grain_law.specs.Laws.{SafeIsSafeInFineSteps, SafeInFineStepsIsSafe, StepsAreFineSteps, RunsAreFineRuns, FineRunsAreRuns, ConditionsMeanSafeInFineSteps, SharedIsSafeInFineSteps};
+ghost use Rattle.grain_law.specs.Laws.{SafeIsSafeInFineSteps, SafeInFineStepsIsSafe, StepsAreFineSteps, RunsAreFineRuns, FineRunsAreRuns, ConditionsMeanSafeInFineSteps};
+ghost use Rattle.grain_law.specs.Samples.{SharedIsSafeInFineSteps, EqualityIsSafeInFineSteps};
 
 /// A program is safe in fine steps exactly where it is safe: reads that others come between make no difference.
 pub fn safe_in_fine_steps()
@@ -24,7 +25,8 @@ pub fn conditions_mean_safe_in_fine_steps()
     ensures conditions { ConditionsMeanSafeInFineSteps }
 {}
 
-/// A safe program meets the premises.
+/// The premises are met by safe programs; one of them reads two fields in one expression.
 pub fn premises_are_met()
     ensures shared { SharedIsSafeInFineSteps }
+    ensures equality { EqualityIsSafeInFineSteps }
 {}
