@@ -1,5 +1,5 @@
 -- Each step of the machine is some fine steps: the reads of its item, and its last event.
-use Rattle.std.proofs.Common.{◌≡◌, ℕ, ◌==◌, Bool, true, false, List, [], ◌∷◌, ◌++◌, ◌⊎◌, inl, inr, ⊎_elim, refl, sym, ap, ◌∙◌, subst, if◌then◌else◌}
+use Rattle.std.proofs.Common.{◌≡◌, ℕ, zero, suc, ◌==◌, Bool, true, false, List, [], ◌∷◌, ◌++◌, ◌⊎◌, inl, inr, ⊎_elim, refl, sym, ap, ◌∙◌, subst, if◌then◌else◌}
 use Rattle.std.proofs.lemmas.Bool.{both_ways, eqb-true, eq-eqb}
 use Rattle.std.proofs.lemmas.List.{append_assoc, append-nil}
 use Rattle.object_types.specs.declared.values.Value.{Value}
@@ -11,7 +11,7 @@ use Rattle.method.specs.Actions.{Fresh}
 use Rattle.method.specs.Machine.{Activation, State, Turn, Event, Answer, NotEnabled, Faulted, Next, turn_of, thread_turn, frames_of, next_number, answer_of, step, left_by, run, IsFine}
 use Rattle.grain_law.specs.FieldReads.{Reading, Refuses, Reads, Ends}
 use Rattle.grain_law.specs.Plans.{Finish, item_fits, item_line}
-use Rattle.grain_law.specs.FineSteps.{FineState, FineStep, with_reads, next_state, end_step, frames_step, fine_step, fine_run, fine_start, first_tests}
+use Rattle.grain_law.specs.FineSteps.{FineState, FineStep, with_reads, next_state, end_step, frames_step, fine_step, fine_run, reads_by, fine_start, first_tests}
 use Rattle.grain_law.specs.Laws.{AnswersInFineSteps, StepsAreFineSteps, RunsAreFineRuns, SafeInFineStepsIsSafe}
 use Rattle.grain_law.proofs.Traces.{Stops, Finishes, Along, along_same}
 use Rattle.grain_law.proofs.Plans.{bind, ItemGoes, item_goes, item_waits}
@@ -22,13 +22,27 @@ fine_more : (p : Program) (es : List Event) (e : Event) (f : FineState) → fine
 fine_more p [] e f = refl
 fine_more p (d ∷ es) e f = fine_more p es e (next_state f (fine_step p f d))
 
--- fine steps lead there
-record Reached (p : Program) (s0 : State) (f : FineState) : Type 0 where
-  events : List Event
-  is : fine_run p events (fine_start s0) ≡ f
+fine_append : (p : Program) (es ds : List Event) (f : FineState) → fine_run p (es ++ ds) f ≡ fine_run p ds (fine_run p es f)
+fine_append p [] ds f = refl
+fine_append p (e ∷ es) ds f = fine_append p es ds (next_state f (fine_step p f e))
 
-reached_more : (p : Program) (s0 : State) (f : FineState) (e : Event) → Reached p s0 f → Reached p s0 (next_state f (fine_step p f e))
-reached_more p s0 f e r = record { events = r.events ++ e ∷ []; is = fine_more p r.events e (fine_start s0) ∙ ap (λ f. next_state f (fine_step p f e)) r.is }
+abbrev one_read : ℕ → Event
+one_read t = record { thread = t; choices = [] }
+
+reads_and_one : (n t : ℕ) → reads_by n t ++ one_read t ∷ [] ≡ reads_by (suc n) t
+reads_and_one zero t = refl
+reads_and_one (suc n) t = ap (λ es. one_read t ∷ es) (reads_and_one n t)
+
+-- reads of the thread lead there
+record ReadsTo (p : Program) (t : ℕ) (f0 f : FineState) : Type 0 where
+  number : ℕ
+  is : fine_run p (reads_by number t) f0 ≡ f
+
+reads_more : (p : Program) (t : ℕ) (f0 f : FineState) → ReadsTo p t f0 f → ReadsTo p t f0 (next_state f (fine_step p f (one_read t)))
+reads_more p t f0 f r = record {
+  number = suc r.number;
+  is = ap (λ es. fine_run p es f0) (sym (reads_and_one r.number t)) ∙ fine_more p (reads_by r.number t) (one_read t) f0 ∙ ap (λ f. next_state f (fine_step p f (one_read t))) r.is;
+}
 
 abbrev with_lists : State → (ℕ → List Value) → FineState
 with_lists s ls = record { state = s; reads = ls }
@@ -54,12 +68,6 @@ list_none t ls only u = by (u == t) refl
     by true e = refl
     by false e = only u (λ same. both_ways (u == t) e (eq-eqb u t same))
 
--- a state of the machine that fine steps lead to, in which no thread has read anything for its next item
-record BetweenItems (p : Program) (s0 s : State) : Type 0 where
-  lists : ℕ → List Value
-  reached : Reached p s0 (with_lists s lists)
-  none : (t : ℕ) → lists t ≡ []
-
 -- behind a step the list of its thread is empty
 abbrev Emptied : ℕ → (ℕ → List Value) → Answer → (ℕ → List Value) → Type 0
 Emptied t ls NotEnabled reads = Unit {0}
@@ -71,10 +79,10 @@ emptied t ls NotEnabled = tt
 emptied t ls (Faulted kind line) = tt
 emptied t ls (Next s line) = refl
 
--- fine steps that leave the state, and one behind them that says what the machine says
-record Answers (p : Program) (s0 s : State) (e : Event) : Type 0 where
+-- reads that leave the state, and an event behind them to which the answer is the machine's
+record Answers (p : Program) (s : State) (e : Event) : Type 0 where
   lists : ℕ → List Value
-  reached : Reached p s0 (with_lists s lists)
+  reached : ReadsTo p e.thread (fine_start s) (with_lists s lists)
   only : OnlyFor e.thread lists
   choices : List Value
   gives : FineStep
@@ -82,7 +90,7 @@ record Answers (p : Program) (s0 s : State) (e : Event) : Type 0 where
   answer : gives.answer ≡ step p s e
   empty : Emptied e.thread lists gives.answer gives.reads
 
-module _ (p : Program) (s0 : State) where
+module _ (p : Program) where
   module _ (s : State) (t : ℕ) (a : Activation) (below : List Activation) (frames : frames_of t s.threads ≡ a ∷ below) where
     abbrev worked : List Value → Outcome (Reading Finish)
     worked us = works p a a.code below s.heap us
@@ -97,7 +105,7 @@ module _ (p : Program) (s0 : State) where
     -- all that the item reads has been read
     record AllRead (c : End Finish) : Type 0 where
       lists : ℕ → List Value
-      reached : Reached p s0 (with_lists s lists)
+      reached : ReadsTo p t (fine_start s) (with_lists s lists)
       only : OnlyFor t lists
       finishes : Finishes here (λ vs. worked (lists t ++ vs)) c
 
@@ -105,19 +113,22 @@ module _ (p : Program) (s0 : State) where
       reading_is : (us : List Value) → (reading p a a.code below s.heap us).end ≡ (worked us).end
       reading_is us = tests_pass (bare p a a.code below s.heap) LoopInv (worked us) (first_tests us (tests p a a.code below s.heap)) 0 (first_hold us (tests p a a.code below s.heap) holds)
 
-      all_read : (rs us : List Value) (ls : ℕ → List Value) (c : End Finish) → Reached p s0 (with_lists s ls) → OnlyFor t ls → ls t ≡ us → Along here rs (λ vs. worked (us ++ vs)) c → AllRead c
+      all_read : (rs us : List Value) (ls : ℕ → List Value) (c : End Finish) → ReadsTo p t (fine_start s) (with_lists s ls) → OnlyFor t ls → ls t ≡ us → Along here rs (λ vs. worked (us ++ vs)) c → AllRead c
       all_read [] us ls c r only is x = record { lists = ls; reached = r; only = only; finishes = subst (λ us. Finishes here (λ vs. worked (us ++ vs)) c) (sym is) x }
       all_read (v ∷ rs) us ls c r only is x =
           all_read rs (us ++ v ∷ []) (with_reads t (ls t ++ v ∷ []) ls) c
-          (subst (Reached p s0) (ap (next_state (with_lists s ls)) (step_by ls us [] (Gave (Reads v)) is (reading_is us ∙ ap (λ us. (worked us).end) (sym (append-nil us)) ∙ x.0))) (reached_more p s0 (with_lists s ls) (record { thread = t; choices = [] }) r))
+          (subst (ReadsTo p t (fine_start s)) (ap (next_state (with_lists s ls)) (step_by ls us [] (Gave (Reads v)) is (reading_is us ∙ ap (λ us. (worked us).end) (sym (append-nil us)) ∙ x.0))) (reads_more p t (fine_start s) (with_lists s ls) r))
           (list_other t (ls t ++ v ∷ []) ls only)
           (list_of t (ls t ++ v ∷ []) ls ∙ ap (λ us. us ++ v ∷ []) is)
           (along_same here rs (λ vs. worked ((us ++ v ∷ []) ++ vs)) (λ vs. worked (us ++ v ∷ vs)) c (λ vs. ap (λ us. (worked us).end) (append_assoc us (v ∷ []) vs)) x.1)
 
-  module _ (s : State) (x : BetweenItems p s0 s) (e : Event) where
+  module _ (s : State) (e : Event) where
     module _ (a : Activation) (below : List Activation) (frames : frames_of e.thread s.threads ≡ a ∷ below) where
       abbrev turn : End Turn
       turn = (turn_of p (Fresh (next_number s.threads)) e.choices a a.code below s.heap).end
+
+      none_yet : ReadsTo p e.thread (fine_start s) (fine_start s)
+      none_yet = record { number = zero; is = refl }
 
       abbrev answers : List Value → End (Reading Finish)
       answers us = (reading p a a.code below s.heap us).end
@@ -126,8 +137,8 @@ module _ (p : Program) (s0 : State) where
       step_turn = step_is p s e ∙ ap (λ fs. answer_of p s e.thread (thread_turn p (Fresh (next_number s.threads)) e.choices fs s.heap).end) frames
 
       -- where the item fails a check, once it has read
-      stopped : (ls : ℕ → List Value) → Reached p s0 (with_lists s ls) → OnlyFor e.thread ls → item_fits p a a.code e.choices ≡ true → (kind : CheckKind) (line : ℕ) → Faulted kind line ≡ step p s e →
-          (r : End (Reading Finish)) → answers (ls e.thread) ≡ r → Stops (item_line p a a.code) kind line r → Answers p s0 s e
+      stopped : (ls : ℕ → List Value) → ReadsTo p e.thread (fine_start s) (with_lists s ls) → OnlyFor e.thread ls → item_fits p a a.code e.choices ≡ true → (kind : CheckKind) (line : ℕ) → Faulted kind line ≡ step p s e →
+          (r : End (Reading Finish)) → answers (ls e.thread) ≡ r → Stops (item_line p a a.code) kind line r → Answers p s e
       stopped ls reached only fits kind line faults Misfit is z = absurd z
       stopped ls reached only fits kind line faults (Failed n k l) is z = record {
         lists = ls;
@@ -153,7 +164,7 @@ module _ (p : Program) (s0 : State) where
       stopped ls reached only fits kind line faults (Gave (Ends finish us)) is z = absurd z
 
       finished :
-          (holds : all_hold (tests p a a.code below s.heap) ≡ true) → item_fits p a a.code e.choices ≡ true → (c : End Finish) → turn ≡ bind c (λ finish. (finish (Fresh (next_number s.threads)) e.choices s.heap).end) → AllRead s e.thread a below frames c → Answers p s0 s e
+          (holds : all_hold (tests p a a.code below s.heap) ≡ true) → item_fits p a a.code e.choices ≡ true → (c : End Finish) → turn ≡ bind c (λ finish. (finish (Fresh (next_number s.threads)) e.choices s.heap).end) → AllRead s e.thread a below frames c → Answers p s e
       finished holds fits Misfit is y = absurd y.finishes
       finished holds fits (Failed n kind line) is y =
           stopped y.lists y.reached y.only fits kind line (sym (step_turn ∙ ap (answer_of p s e.thread) is)) _ (reading_is s e.thread a below frames holds (y.lists e.thread) ∙ ap (λ us. (works p a a.code below s.heap us).end) (sym (append-nil (y.lists e.thread)))) y.finishes
@@ -172,81 +183,91 @@ module _ (p : Program) (s0 : State) where
       abbrev at_ : Spot
       at_ = bare p a a.code below s.heap
 
-      fitting_answers : item_fits p a a.code e.choices ≡ true → Answers p s0 s e
+      fitting_answers : item_fits p a a.code e.choices ≡ true → Answers p s e
       fitting_answers fits = by_tests (all_hold (tests p a a.code below s.heap)) refl
         where
           goes : ItemGoes p a (Fresh (next_number s.threads)) e.choices s.heap a.code below
           goes = item_goes p a (Fresh (next_number s.threads)) e.choices s.heap a.code below fits
 
-          by_tests : (b : Bool) → all_hold (tests p a a.code below s.heap) ≡ b → Answers p s0 s e
+          by_tests : (b : Bool) → all_hold (tests p a a.code below s.heap) ≡ b → Answers p s e
           by_tests true holds =
               finished holds fits goes.goes.at_once.end (goes.is ∙ tests_pass at_ LoopInv goes.rest (tests p a a.code below s.heap) 0 holds ∙ goes.goes.is)
-              (all_read s e.thread a below frames holds goes.goes.traced.0 [] x.lists goes.goes.at_once.end x.reached (λ u d. x.none u) (x.none e.thread) goes.goes.traced.1)
+              (all_read s e.thread a below frames holds goes.goes.traced.0 [] (λ t. []) goes.goes.at_once.end none_yet (λ u d. refl) refl goes.goes.traced.1)
           by_tests false holds =
               let z = tests_end at_ LoopInv goes.rest (tests p a a.code below s.heap) 0 holds in
               let y = tests_end at_ LoopInv (works p a a.code below s.heap []) (tests p a a.code below s.heap) 0 holds in
-              stopped x.lists x.reached (λ u d. x.none u) fits LoopInv (item_line p a a.code) (sym (step_turn ∙ ap (answer_of p s e.thread) (goes.is ∙ z.1))) (Failed y.0 LoopInv (item_line p a a.code)) (ap answers (x.none e.thread) ∙ y.1) (refl, refl)
+              stopped (λ t. []) none_yet (λ u d. refl) fits LoopInv (item_line p a a.code) (sym (step_turn ∙ ap (answer_of p s e.thread) (goes.is ∙ z.1))) (Failed y.0 LoopInv (item_line p a a.code)) y.1 (refl, refl)
 
-      frame_answers : (b : Bool) → item_fits p a a.code e.choices ≡ b → (step p s e ≡ NotEnabled) ⊎ Answers p s0 s e
+      frame_answers : (b : Bool) → item_fits p a a.code e.choices ≡ b → (step p s e ≡ NotEnabled) ⊎ Answers p s e
       frame_answers true fits = inr (fitting_answers fits)
       frame_answers false fits = inl (step_turn ∙ ap (answer_of p s e.thread) (item_waits p a (Fresh (next_number s.threads)) e.choices s.heap a.code below fits))
 
-    frames_answer : (fs : List Activation) → frames_of e.thread s.threads ≡ fs → (step p s e ≡ NotEnabled) ⊎ Answers p s0 s e
+    frames_answer : (fs : List Activation) → frames_of e.thread s.threads ≡ fs → (step p s e ≡ NotEnabled) ⊎ Answers p s e
     frames_answer [] frames = inl (step_is p s e ∙ ap (λ fs. answer_of p s e.thread (thread_turn p (Fresh (next_number s.threads)) e.choices fs s.heap).end) frames)
     frames_answer (a ∷ below) frames = frame_answers a below frames _ refl
 
-    step_answers : (step p s e ≡ NotEnabled) ⊎ Answers p s0 s e
+    step_answers : (step p s e ≡ NotEnabled) ⊎ Answers p s e
     step_answers = frames_answer (frames_of e.thread s.threads) refl
 
-    next_between : (ls : ℕ → List Value) (cs : List Value) (answer : Answer) (reads : ℕ → List Value) → Reached p s0 (with_lists s ls) → OnlyFor e.thread ls → fine_step p (with_lists s ls) (record { thread = e.thread; choices = cs }) ≡ record { answer = answer; reads = reads } → Emptied e.thread ls answer reads →
-        BetweenItems p s0 (left_by s answer)
-    next_between ls cs NotEnabled reads reached only is empty = x
-    next_between ls cs (Faulted kind line) reads reached only is empty = x
-    next_between ls cs (Next s2 line) reads reached only is empty = record {
-      lists = reads;
-      reached = subst (Reached p s0) (ap (next_state (with_lists s ls)) is) (reached_more p s0 (with_lists s ls) (record { thread = e.thread; choices = cs }) reached);
-      none = λ u. ap (λ (ls : ℕ → List Value). ls u) empty ∙ list_none e.thread ls only u;
-    }
-
-start_between : (p : Program) (s : State) → BetweenItems p s s
-start_between p s = record { lists = λ t. []; reached = record { events = []; is = refl }; none = λ t. refl }
-
 pub steps_are_fine_steps : StepsAreFineSteps
-steps_are_fine_steps p s e = ⊎_elim inl (λ y. inr (answered y)) (step_answers p s s (start_between p s) e)
+steps_are_fine_steps p s e = ⊎_elim inl (λ y. inr (answered y)) (step_answers p s e)
   where
-    answered : Answers p s s e → AnswersInFineSteps p s e
+    answered : Answers p s e → AnswersInFineSteps p s e
     answered y = record {
-      before = y.reached.events;
+      number = y.reached.number;
       choices = y.choices;
       stays = ap (λ (f : FineState). f.state) y.reached.is;
       answers = ap (λ f. (fine_step p f (record { thread = e.thread; choices = y.choices })).answer) y.reached.is ∙ ap (λ (z : FineStep). z.answer) y.is ∙ y.answer;
     }
 
 module _ (p : Program) (s0 : State) where
-  between_next : (s : State) → BetweenItems p s0 s → (e : Event) → BetweenItems p s0 (left_by s (step p s e))
-  between_next s x e =
-      ⊎_elim (λ z. subst (λ answer. BetweenItems p s0 (left_by s answer)) (sym z) x)
-      (λ y. subst (λ answer. BetweenItems p s0 (left_by s answer)) y.answer (next_between p s0 s x e y.lists y.choices y.gives.answer y.gives.reads y.reached y.only y.is y.empty)) (step_answers p s0 s x e)
+  -- a state of the machine that fine steps lead to, in which no thread has read anything for its next item
+  record Between (s : State) : Type 0 where
+    events : List Event
+    is : fine_run p events (fine_start s0) ≡ fine_start s
 
-  between_run : (es : List Event) (s : State) → BetweenItems p s0 s → BetweenItems p s0 (run p es s)
+  next_between : (s : State) → Between s → (e : Event) (ls : ℕ → List Value) (cs : List Value) (answer : Answer) (reads : ℕ → List Value) → ReadsTo p e.thread (fine_start s) (with_lists s ls) → OnlyFor e.thread ls →
+      fine_step p (with_lists s ls) (record { thread = e.thread; choices = cs }) ≡ record { answer = answer; reads = reads } → Emptied e.thread ls answer reads → Between (left_by s answer)
+  next_between s x e ls cs NotEnabled reads r only is empty = x
+  next_between s x e ls cs (Faulted kind line) reads r only is empty = x
+  next_between s x e ls cs (Next s2 line) reads r only is empty =
+      let last : Event = record { thread = e.thread; choices = cs } in
+      let more = reads_by r.number e.thread in
+      record {
+        events = x.events ++ (more ++ last ∷ []);
+        is = fine_append p x.events (more ++ last ∷ []) (fine_start s0) ∙ ap (fine_run p (more ++ last ∷ [])) x.is ∙ fine_more p more last (fine_start s) ∙ ap (λ f. next_state f (fine_step p f last)) r.is
+            ∙ ap (next_state (with_lists s ls)) is ∙ (λ i. with_lists s2 (λ u. (ap (λ (ls : ℕ → List Value). ls u) empty ∙ list_none e.thread ls only u) i));
+      }
+
+  between_next : (s : State) → Between s → (e : Event) → Between (left_by s (step p s e))
+  between_next s x e =
+      ⊎_elim (λ z. subst (λ answer. Between (left_by s answer)) (sym z) x)
+      (λ y. subst (λ answer. Between (left_by s answer)) y.answer (next_between s x e y.lists y.choices y.gives.answer y.gives.reads y.reached y.only y.is y.empty)) (step_answers p s e)
+
+  between_run : (es : List Event) (s : State) → Between s → Between (run p es s)
   between_run [] s x = x
   between_run (e ∷ es) s x = between_run es (left_by s (step p s e)) (between_next s x e)
 
+  between_start : Between s0
+  between_start = record { events = []; is = refl }
+
 pub runs_are_fine_runs : RunsAreFineRuns
-runs_are_fine_runs p s events = let x = between_run p s events s (start_between p s) in (x.reached.events, ap (λ (f : FineState). f.state) x.reached.is)
+runs_are_fine_runs p s events = let x = between_run p s events s (between_start p s) in (x.events, x.is)
 
 -- So what is safe in fine steps is safe.
 pub safe_in_fine_steps_is_safe : SafeInFineStepsIsSafe
-safe_in_fine_steps_is_safe p safe s0 start good events e = ⊎_elim (λ z. subst (IsFine p s) (sym z) tt) answered (step_answers p s0 s between e)
+safe_in_fine_steps_is_safe p safe s0 start good events e = ⊎_elim (λ z. subst (IsFine p s) (sym z) tt) answered (step_answers p s e)
   where
     s : State
     s = run p events s0
 
-    between : BetweenItems p s0 s
-    between = between_run p s0 events s0 (start_between p s0)
+    between : Between p s0 s
+    between = between_run p s0 events s0 (between_start p s0)
 
-    answered : Answers p s0 s e → IsFine p s (step p s e)
+    answered : Answers p s e → IsFine p s (step p s e)
     answered y =
         let event : Event = record { thread = e.thread; choices = y.choices } in
-        let passes = subst (λ (f : FineState). IsFine p f.state (fine_step p f event).answer) y.reached.is (safe s0 start good y.reached.events event) in
+        let more = reads_by y.reached.number e.thread in
+        let there = fine_append p between.events more (fine_start s0) ∙ ap (fine_run p more) between.is ∙ y.reached.is in
+        let passes = subst (λ (f : FineState). IsFine p f.state (fine_step p f event).answer) there (safe s0 start good (between.events ++ more) event) in
         subst (IsFine p s) y.answer (subst (λ (z : FineStep). IsFine p s z.answer) y.is passes)

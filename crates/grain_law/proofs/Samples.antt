@@ -1,8 +1,7 @@
 -- Programs that are safe, and so safe in fine steps.
-use Rattle.std.proofs.Common.{◌≡◌, ℕ, zero, suc, ◌+◌, Bool, true, false, not, ◌==◌, ◌&&◌, ◌||◌, nat_le, nat_lt, refl, sym, ap, ◌∙◌, subst, pos, List, [], ◌∷◌, length, Some, slice_get, if◌then◌else◌, arith}
+use Rattle.std.proofs.Common.{◌≡◌, ℕ, zero, suc, ◌+◌, Bool, true, false, not, ◌==◌, ◌&&◌, nat_le, nat_lt, refl, sym, ap, ◌∙◌, subst, pos, List, [], ◌∷◌, length, Some, slice_get, if◌then◌else◌, arith}
 use Rattle.std.proofs.lemmas.Bool.{le-ltb}
 use Rattle.object_types.specs.declared.references.Ref.{Ref}
-use Rattle.object_types.specs.declared.records.Mode.TheVariants.{Absent}
 use Rattle.object_types.specs.declared.values.Value.{Value}
 use Rattle.object_types.specs.declared.values.Value.TheVariants.{Int, Ref as Refers}
 use Rattle.object_types.specs.References.{null, thread, same_ref}
@@ -13,7 +12,7 @@ use Rattle.method.specs.declared.program.CheckKind.TheVariants.{Read}
 use Rattle.method.specs.declared.program.Comparison.TheVariants.{Equal}
 use Rattle.method.specs.declared.program.Expr.{Expr}
 use Rattle.method.specs.declared.program.Expr.TheVariants.{Variable, Field', Compare'}
-use Rattle.method.specs.declared.program.RightSide.TheVariants.{Compute, Malloc}
+use Rattle.method.specs.declared.program.RightSide.TheVariants.{Malloc}
 use Rattle.method.specs.declared.program.Action.TheVariants.{Define}
 use Rattle.method.specs.declared.program.Item.{Item}
 use Rattle.method.specs.declared.program.Item.TheVariants.{Struct, Function}
@@ -25,9 +24,9 @@ use Rattle.method.specs.Typing.{stmt_ok, of_content, is_field_range, is_type, re
 use Rattle.method.specs.Legal.{Good}
 use Rattle.method.specs.Rely.{Rely}
 use Rattle.method.specs.SpecValue.{compare}
-use Rattle.method.specs.Expressions.{Outcome, Gave, Context, Spot, eval, readable}
-use Rattle.method.specs.Actions.{InLocal, Supply, Chosen, Progress, Valued, no_tally, spot, starting, new_object, right_side, malloc, store, no_choices, malloc_fits, act, callee}
-use Rattle.method.specs.Labels.{ProgramLabel, program_labels}
+use Rattle.method.specs.Expressions.{Outcome, Gave, Context, eval, readable}
+use Rattle.method.specs.Actions.{InLocal, Supply, Chosen, Progress, Valued, spot, starting, new_object, malloc, store, no_choices, malloc_fits, act, callee}
+use Rattle.method.specs.Labels.{ProgramLabel}
 use Rattle.method.specs.LocalRuns.{LocalOk}
 use Rattle.method.specs.Machine.{fit_parameters, requires_hold, begin, IsStart}
 use Rattle.method.specs.SafeRuns.{Branch, RunsOk, RunsBody, Goes}

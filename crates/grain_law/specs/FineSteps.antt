@@ -1,6 +1,6 @@
 -- The machine in fine steps: each read of a field in code outside atomic blocks is a step of its own, so that other threads act between two reads of one item, and between a read and the use of its value.
 -- Own; that what a thread owns, or knows to be stable, needs no such steps is from CAV 2010.
-use Rattle.std.specs.Prelude.{ℕ, ◌==◌, Bool, if◌then◌else◌, List, [], ◌∷◌, ◌++◌, map}
+use Rattle.std.specs.Prelude.{ℕ, zero, suc, ◌==◌, Bool, if◌then◌else◌, List, [], ◌∷◌, ◌++◌, map}
 use Rattle.object_types.specs.declared.values.Value.{Value}
 use Rattle.object_types.specs.Heap.{Heap}
 use Rattle.method.specs.declared.program.CheckKind.TheVariants.{Read, LoopInv}
@@ -88,6 +88,11 @@ next_state f step = next_by f step.answer step.reads
 abbrev pub fine_run : Program → List Event → FineState → FineState
 fine_run p [] f = f
 fine_run p (e ∷ es) f = fine_run p es (next_state f (fine_step p f e))
+
+-- the reads of a thread, this many
+abbrev pub reads_by : ℕ → ℕ → List Event
+reads_by zero t = []
+reads_by (suc n) t = record { thread = t; choices = [] } ∷ reads_by n t
 
 -- at the start nothing has been read
 abbrev pub fine_start : State → FineState
