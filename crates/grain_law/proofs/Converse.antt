@@ -92,8 +92,8 @@ record Answers (p : Program) (s : State) (e : Event) : Type 0 where
 
 module _ (p : Program) where
   module _ (s : State) (t : ℕ) (a : Activation) (below : List Activation) (frames : frames_of t s.threads ≡ a ∷ below) where
-    abbrev worked : List Value → Outcome (Reading Finish)
-    worked us = works p a a.code below s.heap us
+    abbrev works_here : List Value → Outcome (Reading Finish)
+    works_here us = works p a a.code below s.heap us
 
     abbrev here : ℕ
     here = item_line p a a.code
@@ -107,20 +107,20 @@ module _ (p : Program) where
       lists : ℕ → List Value
       reached : ReadsTo p t (fine_start s) (with_lists s lists)
       only : OnlyFor t lists
-      finishes : Finishes here (λ vs. worked (lists t ++ vs)) c
+      finishes : Finishes here (λ vs. works_here (lists t ++ vs)) c
 
     module _ (holds : all_hold (tests p a a.code below s.heap) ≡ true) where
-      reading_is : (us : List Value) → (reading p a a.code below s.heap us).end ≡ (worked us).end
-      reading_is us = tests_pass (bare p a a.code below s.heap) LoopInv (worked us) (first_tests us (tests p a a.code below s.heap)) 0 (first_hold us (tests p a a.code below s.heap) holds)
+      reading_is : (us : List Value) → (reading p a a.code below s.heap us).end ≡ (works_here us).end
+      reading_is us = tests_pass (bare p a a.code below s.heap) LoopInv (works_here us) (first_tests us (tests p a a.code below s.heap)) 0 (first_hold us (tests p a a.code below s.heap) holds)
 
-      all_read : (rs us : List Value) (ls : ℕ → List Value) (c : End Finish) → ReadsTo p t (fine_start s) (with_lists s ls) → OnlyFor t ls → ls t ≡ us → Along here rs (λ vs. worked (us ++ vs)) c → AllRead c
-      all_read [] us ls c r only is x = record { lists = ls; reached = r; only = only; finishes = subst (λ us. Finishes here (λ vs. worked (us ++ vs)) c) (sym is) x }
+      all_read : (rs us : List Value) (ls : ℕ → List Value) (c : End Finish) → ReadsTo p t (fine_start s) (with_lists s ls) → OnlyFor t ls → ls t ≡ us → Along here rs (λ vs. works_here (us ++ vs)) c → AllRead c
+      all_read [] us ls c r only is x = record { lists = ls; reached = r; only = only; finishes = subst (λ us. Finishes here (λ vs. works_here (us ++ vs)) c) (sym is) x }
       all_read (v ∷ rs) us ls c r only is x =
           all_read rs (us ++ v ∷ []) (with_reads t (ls t ++ v ∷ []) ls) c
-          (subst (ReadsTo p t (fine_start s)) (ap (next_state (with_lists s ls)) (step_by ls us [] (Gave (Reads v)) is (reading_is us ∙ ap (λ us. (worked us).end) (sym (append-nil us)) ∙ x.0))) (reads_more p t (fine_start s) (with_lists s ls) r))
+          (subst (ReadsTo p t (fine_start s)) (ap (next_state (with_lists s ls)) (step_by ls us [] (Gave (Reads v)) is (reading_is us ∙ ap (λ us. (works_here us).end) (sym (append-nil us)) ∙ x.0))) (reads_more p t (fine_start s) (with_lists s ls) r))
           (list_other t (ls t ++ v ∷ []) ls only)
           (list_of t (ls t ++ v ∷ []) ls ∙ ap (λ us. us ++ v ∷ []) is)
-          (along_same here rs (λ vs. worked ((us ++ v ∷ []) ++ vs)) (λ vs. worked (us ++ v ∷ vs)) c (λ vs. ap (λ us. (worked us).end) (append_assoc us (v ∷ []) vs)) x.1)
+          (along_same here rs (λ vs. works_here ((us ++ v ∷ []) ++ vs)) (λ vs. works_here (us ++ v ∷ vs)) c (λ vs. ap (λ us. (works_here us).end) (append_assoc us (v ∷ []) vs)) x.1)
 
   module _ (s : State) (e : Event) where
     module _ (a : Activation) (below : List Activation) (frames : frames_of e.thread s.threads ≡ a ∷ below) where
@@ -137,10 +137,10 @@ module _ (p : Program) where
       step_turn = step_is p s e ∙ ap (λ fs. answer_of p s e.thread (thread_turn p (Fresh (next_number s.threads)) e.choices fs s.heap).end) frames
 
       -- where the item fails a check, once it has read
-      stopped : (ls : ℕ → List Value) → ReadsTo p e.thread (fine_start s) (with_lists s ls) → OnlyFor e.thread ls → item_fits p a a.code e.choices ≡ true → (kind : CheckKind) (line : ℕ) → Faulted kind line ≡ step p s e →
+      stops_so : (ls : ℕ → List Value) → ReadsTo p e.thread (fine_start s) (with_lists s ls) → OnlyFor e.thread ls → item_fits p a a.code e.choices ≡ true → (kind : CheckKind) (line : ℕ) → Faulted kind line ≡ step p s e →
           (r : End (Reading Finish)) → answers (ls e.thread) ≡ r → Stops (item_line p a a.code) kind line r → Answers p s e
-      stopped ls reached only fits kind line faults Misfit is z = absurd z
-      stopped ls reached only fits kind line faults (Failed n k l) is z = record {
+      stops_so ls reached only fits kind line faults Misfit is z = absurd z
+      stops_so ls reached only fits kind line faults (Failed n k l) is z = record {
         lists = ls;
         reached = reached;
         only = only;
@@ -150,7 +150,7 @@ module _ (p : Program) where
         answer = (λ i. Faulted (z.0 i) (z.1 i)) ∙ faults;
         empty = tt;
       }
-      stopped ls reached only fits kind line faults (Gave Refuses) is z = record {
+      stops_so ls reached only fits kind line faults (Gave Refuses) is z = record {
         lists = ls;
         reached = reached;
         only = only;
@@ -160,15 +160,15 @@ module _ (p : Program) where
         answer = (λ i. Faulted (z.0 i) (z.1 i)) ∙ faults;
         empty = tt;
       }
-      stopped ls reached only fits kind line faults (Gave (Reads v)) is z = absurd z
-      stopped ls reached only fits kind line faults (Gave (Ends finish us)) is z = absurd z
+      stops_so ls reached only fits kind line faults (Gave (Reads v)) is z = absurd z
+      stops_so ls reached only fits kind line faults (Gave (Ends finish us)) is z = absurd z
 
-      finished :
+      ends_so :
           (holds : all_hold (tests p a a.code below s.heap) ≡ true) → item_fits p a a.code e.choices ≡ true → (c : End Finish) → turn ≡ bind c (λ finish. (finish (Fresh (next_number s.threads)) e.choices s.heap).end) → AllRead s e.thread a below frames c → Answers p s e
-      finished holds fits Misfit is y = absurd y.finishes
-      finished holds fits (Failed n kind line) is y =
-          stopped y.lists y.reached y.only fits kind line (sym (step_turn ∙ ap (answer_of p s e.thread) is)) _ (reading_is s e.thread a below frames holds (y.lists e.thread) ∙ ap (λ us. (works p a a.code below s.heap us).end) (sym (append-nil (y.lists e.thread)))) y.finishes
-      finished holds fits (Gave finish) is y = record {
+      ends_so holds fits Misfit is y = absurd y.finishes
+      ends_so holds fits (Failed n kind line) is y =
+          stops_so y.lists y.reached y.only fits kind line (sym (step_turn ∙ ap (answer_of p s e.thread) is)) _ (reading_is s e.thread a below frames holds (y.lists e.thread) ∙ ap (λ us. (works p a a.code below s.heap us).end) (sym (append-nil (y.lists e.thread)))) y.finishes
+      ends_so holds fits (Gave finish) is y = record {
         lists = y.lists;
         reached = y.reached;
         only = y.only;
@@ -191,12 +191,12 @@ module _ (p : Program) where
 
           by_tests : (b : Bool) → all_hold (tests p a a.code below s.heap) ≡ b → Answers p s e
           by_tests true holds =
-              finished holds fits goes.goes.at_once.end (goes.is ∙ tests_pass at_ LoopInv goes.rest (tests p a a.code below s.heap) 0 holds ∙ goes.goes.is)
-              (all_read s e.thread a below frames holds goes.goes.traced.0 [] (λ t. []) goes.goes.at_once.end none_yet (λ u d. refl) refl goes.goes.traced.1)
+              ends_so holds fits goes.goes.at_once.end (goes.is ∙ tests_pass at_ LoopInv goes.rest (tests p a a.code below s.heap) 0 holds ∙ goes.goes.is)
+              (all_read s e.thread a below frames holds goes.goes.traces.0 [] (λ t. []) goes.goes.at_once.end none_yet (λ u d. refl) refl goes.goes.traces.1)
           by_tests false holds =
               let z = tests_end at_ LoopInv goes.rest (tests p a a.code below s.heap) 0 holds in
               let y = tests_end at_ LoopInv (works p a a.code below s.heap []) (tests p a a.code below s.heap) 0 holds in
-              stopped (λ t. []) none_yet (λ u d. refl) fits LoopInv (item_line p a a.code) (sym (step_turn ∙ ap (answer_of p s e.thread) (goes.is ∙ z.1))) (Failed y.0 LoopInv (item_line p a a.code)) y.1 (refl, refl)
+              stops_so (λ t. []) none_yet (λ u d. refl) fits LoopInv (item_line p a a.code) (sym (step_turn ∙ ap (answer_of p s e.thread) (goes.is ∙ z.1))) (Failed y.0 LoopInv (item_line p a a.code)) y.1 (refl, refl)
 
       frame_answers : (b : Bool) → item_fits p a a.code e.choices ≡ b → (step p s e ≡ NotEnabled) ⊎ Answers p s e
       frame_answers true fits = inr (fitting_answers fits)

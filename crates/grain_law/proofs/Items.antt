@@ -20,7 +20,7 @@ use Rattle.method.proofs.Global.{and_both}
 use Rattle.grain_law.specs.FieldReads.{Reading, Refuses, Reads, Ends}
 use Rattle.grain_law.specs.Plans.{Finish, turn_plan, item_line, item_fits, item_invariants}
 use Rattle.grain_law.specs.FineSteps.{work, first_tests}
-use Rattle.grain_law.proofs.Traces.{Fails, Completed, Prefixed, complete}
+use Rattle.grain_law.proofs.Traces.{Fails, EndsAtOnce, InTurn, complete}
 use Rattle.grain_law.proofs.Plans.{bind, ItemGoes, item_goes}
 
 abbrev pub all_hold : List Tested → Bool
@@ -49,7 +49,7 @@ pub first_hold : (us : List Value) (ts : List Tested) → all_hold ts ≡ true �
 first_hold [] ts e = e
 first_hold (u ∷ us) ts e = refl
 
--- what the event is, by how far the item is worked out: it doesn't fault, and at the last event it is the machine's turn
+-- what the event is, by how far the item is works_here out: it doesn't fault, and at the last event it is the machine's turn
 abbrev pub Sound : Supply → List Value → Heap → End Turn → End (Reading Finish) → Type 0
 Sound supply choices h e Misfit = ⊥
 Sound supply choices h e (Failed n kind line) = ⊥
@@ -62,7 +62,7 @@ fails_bind Misfit f x = x
 fails_bind (Failed n kind line) f x = x
 fails_bind (Gave a) f x = absurd x
 
-sound_by : (supply : Supply) (choices : List Value) (h : Heap) (e : End Turn) (w : End (Reading Finish)) (c : End Finish) → (Fails e → ⊥) → e ≡ bind c (λ finish. (finish supply choices h).end) → Completed w c → Sound supply choices h e w
+sound_by : (supply : Supply) (choices : List Value) (h : Heap) (e : End Turn) (w : End (Reading Finish)) (c : End Finish) → (Fails e → ⊥) → e ≡ bind c (λ finish. (finish supply choices h).end) → EndsAtOnce w c → Sound supply choices h e w
 sound_by supply choices h e Misfit c unfailing is x = x
 sound_by supply choices h e (Failed n kind line) c unfailing is x = unfailing (subst Fails (sym is) (fails_bind c _ x))
 sound_by supply choices h e (Gave Refuses) c unfailing is x = unfailing (subst Fails (sym is) (fails_bind c _ x))
@@ -82,7 +82,7 @@ module _ (p : Program) (a : Activation) (code : List Remaining) (below : List Ac
   abbrev pub reading : List Value → Outcome (Reading Finish)
   reading us = check_specs bare (first_tests us tests) 0 LoopInv (works us)
 
-  pub reading_sound : (supply : Supply) (choices : List Value) (us : List Value) → item_fits p a code choices ≡ true → Prefixed works us → (Fails (turn_of p supply choices a code below h).end → ⊥) → Sound supply choices h (turn_of p supply choices a code below h).end (reading us).end
+  pub reading_sound : (supply : Supply) (choices : List Value) (us : List Value) → item_fits p a code choices ≡ true → InTurn works us → (Fails (turn_of p supply choices a code below h).end → ⊥) → Sound supply choices h (turn_of p supply choices a code below h).end (reading us).end
   reading_sound supply choices us fits current unfailing = by_tests (all_hold tests) refl
     where
       goes : ItemGoes p a supply choices h code below
@@ -91,7 +91,7 @@ module _ (p : Program) (a : Activation) (code : List Remaining) (below : List Ac
       by_tests : (b : Bool) → all_hold tests ≡ b → Sound supply choices h (turn_of p supply choices a code below h).end (reading us).end
       by_tests true e =
           subst (Sound supply choices h (turn_of p supply choices a code below h).end) (sym (tests_pass bare LoopInv (works us) (first_tests us tests) 0 (first_hold us tests e)))
-          (sound_by supply choices h _ (works us).end goes.goes.at_once.end unfailing (goes.is ∙ tests_pass bare LoopInv goes.rest tests 0 e ∙ goes.goes.is) (complete (item_line p a code) us goes.goes.traced.0 works goes.goes.at_once.end goes.goes.traced.1 current))
+          (sound_by supply choices h _ (works us).end goes.goes.at_once.end unfailing (goes.is ∙ tests_pass bare LoopInv goes.rest tests 0 e ∙ goes.goes.is) (complete (item_line p a code) us goes.goes.traces.0 works goes.goes.at_once.end goes.goes.traces.1 current))
       by_tests false e = absurd (unfailing (subst Fails (sym goes.is) (tests_fail bare LoopInv goes.rest tests 0 e)))
 
   -- a read comes from the plan, not from the tests before it

@@ -25,7 +25,7 @@ use Rattle.grain_law.specs.FieldReads.{Reading, Refuses, Reads, Ends}
 use Rattle.grain_law.specs.Plans.{Finish, item_fits, item_line, turn_plan}
 use Rattle.grain_law.specs.FineSteps.{FineState, FineStep, with_reads, next_by, next_state, end_step, frames_step, fine_step, fine_run, fine_start}
 use Rattle.grain_law.specs.Laws.{SafeIsSafeInFineSteps, FineRunsAreRuns, ConditionsMeanSafeInFineSteps}
-use Rattle.grain_law.proofs.Traces.{Fails, Prefixed, one_more}
+use Rattle.grain_law.proofs.Traces.{Fails, InTurn, one_more}
 use Rattle.grain_law.proofs.Items.{Sound, works, reading, reading_sound, comes_from, can_fit}
 use Rattle.grain_law.proofs.Others.{reads_stay}
 
@@ -79,7 +79,7 @@ module _ (u t : ℕ) (fs : List Activation) (more : List Thread) (differ : u ≢
 
 abbrev OnFrames : Program → Heap → List Value → List Activation → Type 0
 OnFrames p h us [] = ⊥
-OnFrames p h us (a ∷ below) = Prefixed (works p a a.code below h) us
+OnFrames p h us (a ∷ below) = InTurn (works p a a.code below h) us
 
 record Current (p : Program) (s : State) (t : ℕ) (us : List Value) : Type 0 where
   there : has_thread t s.threads ≡ true
@@ -92,8 +92,8 @@ frames_current : (p : Program) (typed : WellTyped p) (t : Ref) (h k : Heap) → 
 frames_current p typed t h k r us [] ok x = x
 frames_current p typed t h k r us (a ∷ below) ok x = reads_stay p a.context h k (subst (λ t. Rely p t h k) (sym ok.0.me_is) r) (item_line p a a.code) a.locals (turn_plan p a a.code below) us x
 
-all_current : (p : Program) (s : State) (a : Activation) (below : List Activation) (t : ℕ) (us : List Value) → frames_of t s.threads ≡ a ∷ below → IsCurrent p s t us → Prefixed (works p a a.code below s.heap) us
-all_current p s a below t us e (inl x) = subst (Prefixed (works p a a.code below s.heap)) (sym x) tt
+all_current : (p : Program) (s : State) (a : Activation) (below : List Activation) (t : ℕ) (us : List Value) → frames_of t s.threads ≡ a ∷ below → IsCurrent p s t us → InTurn (works p a a.code below s.heap) us
+all_current p s a below t us e (inl x) = subst (InTurn (works p a a.code below s.heap)) (sym x) tt
 all_current p s a below t us e (inr x) = subst (OnFrames p s.heap us) e x.now
 
 record FineOk (p : Program) (s0 : State) (f : FineState) : Type 0 where
@@ -173,7 +173,7 @@ module _ (p : Program) (typed : WellTyped p) (safe : Safe p) (s0 : State) (start
       turn_fine : (cs : List Value) → IsFine p f.state (answer_of p f.state e.thread (turn cs))
       turn_fine cs = subst (IsFine p f.state) (step_turn cs) (machine_fine cs)
 
-      now : Prefixed (works p a a.code below f.state.heap) (f.reads e.thread)
+      now : InTurn (works p a a.code below f.state.heap) (f.reads e.thread)
       now = all_current p f.state a below e.thread (f.reads e.thread) frames (ok.current e.thread)
 
       sound : (cs : List Value) → item_fits p a a.code cs ≡ true → Sound (Fresh (next_number f.state.threads)) cs f.state.heap (turn cs) (reading p a a.code below f.state.heap (f.reads e.thread)).end

@@ -20,7 +20,7 @@ use Rattle.quiet_law.proofs.QuietReads.{readable_same, read_same}
 use Rattle.grain_law.specs.FieldReads.{Ends, after_reading, next_read, late_check, eval_with}
 use Rattle.grain_law.specs.Plans.{Plan, Rest, Work}
 use Rattle.grain_law.specs.FineSteps.{work}
-use Rattle.grain_law.proofs.Traces.{Prefixed}
+use Rattle.grain_law.proofs.Traces.{InTurn}
 
 next_read_same : (us : List Value) (b c : Bool) (v w : Value) → c ≡ b → (b ≡ true → w ≡ v) → next_read us c w ≡ next_read us b v
 next_read_same [] true true v w e same = ap (next_read [] true) (same refl)
@@ -52,5 +52,5 @@ module _ (p : Program) (x : Context) (h k : Heap) (r : Rely p x.me h k) (line : 
   work_same (Rest a) us = refl
   work_same (Work e f) us = λ i. after_reading (eval_same e us i) (λ v vs. work_same (f v) vs i)
 
-  pub reads_stay : {A : Type 0} (plan : Plan A) (us : List Value) → Prefixed (work p at_ h l plan) us → Prefixed (work p at_ k l plan) us
-  reads_stay plan us x = subst (λ F. Prefixed F us) (λ i vs. sym (work_same plan vs) i) x
+  pub reads_stay : {A : Type 0} (plan : Plan A) (us : List Value) → InTurn (work p at_ h l plan) us → InTurn (work p at_ k l plan) us
+  reads_stay plan us x = subst (λ F. InTurn F us) (λ i vs. sym (work_same plan vs) i) x

@@ -32,7 +32,7 @@ use Rattle.method.specs.Machine.{Remaining, Run, Test, WrapAgain, Receive, Activ
 use Rattle.grain_law.specs.FieldReads.{eval_with}
 use Rattle.grain_law.specs.Plans.{Plan, Rest, Work, work_all, left_plan, objects_plan, Effect, site_plan, right_plan, simple_plan, action_plan, claim_rest, Finish, receiver_plan, value_plan, turn_plan, block_rest, item_line, item_fits, item_invariants}
 use Rattle.grain_law.specs.FineSteps.{work}
-use Rattle.grain_law.proofs.Traces.{Traced, then_traced, eval_traced}
+use Rattle.grain_law.proofs.Traces.{Traces, then_traces, eval_traces}
 
 abbrev pub bind : {A B : Type 0} → End A → (A → End B) → End B
 bind Misfit f = Misfit
@@ -57,10 +57,10 @@ pub regroup : {A B C : Type 0} (o : Outcome A) (f : A → Outcome B) (c : B → 
 regroup o f c =
     after_bind (after o f) c ∙ ap (λ e. bind e (λ b. (c b).end)) (after_bind o f) ∙ bind_bind o.end (λ a. (f a).end) (λ b. (c b).end) ∙ (λ i. bind o.end (λ a. sym (after_bind (f a) c) i)) ∙ sym (after_bind o (λ a. after (f a) c))
 
--- The plan's expressions are worked out in turn, and where all are, what is left comes to the end.
+-- The plan's expressions are works_here out in turn, and where all are, what is left comes to the end.
 pub record GoesAt (p : Program) (bare : Spot) (h : Heap) (l : List Value) {A C : Type 0} (does : A → End C) (plan : Plan A) (e : End C) : Type 0 where
   pub at_once : Outcome A
-  pub traced : Traced bare.line (work p bare h l plan) at_once.end
+  pub traces : Traces bare.line (work p bare h l plan) at_once.end
   pub is : e ≡ bind at_once.end does
 
 module _ (p : Program) (y : Context) (choices : List Value) (line : ℕ) (h : Heap) (l : List Value) where
@@ -74,15 +74,15 @@ module _ (p : Program) (y : Context) (choices : List Value) (line : ℕ) (h : He
   Goes does plan e = GoesAt p bare h l does plan e
 
   goes_rest : {A C : Type 0} (does : A → End C) (a : A) → Goes does (Rest a) (does a)
-  goes_rest does a = record { at_once = Gives a; traced = ([], λ us. refl); is = refl }
+  goes_rest does a = record { at_once = Gives a; traces = ([], λ us. refl); is = refl }
 
   goes_same : {A C : Type 0} (does : A → End C) (plan : Plan A) (d e : End C) → d ≡ e → Goes does plan e → Goes does plan d
-  goes_same does plan d e s x = record { at_once = x.at_once; traced = x.traced; is = s ∙ x.is }
+  goes_same does plan d e s x = record { at_once = x.at_once; traces = x.traces; is = s ∙ x.is }
 
   goes_work : {A C : Type 0} (does : A → End C) (e : Expr) (n : ℕ) (k : Value → Plan A) (c : Value → Outcome C) → ((v : Value) → Goes does (k v) (c v).end) → Goes does (Work e k) (after (eval p at_ h l e n) c).end
   goes_work does e n k c x = record {
     at_once = after (eval p at_ h l e n) (λ v. (x v).at_once);
-    traced = then_traced line (eval_with p bare h l e) (λ v vs. work p bare h l (k v) vs) (eval p at_ h l e n) (λ v. (x v).at_once) (eval_traced p y [] choices line h l e n) (λ v. (x v).traced);
+    traces = then_traces line (eval_with p bare h l e) (λ v vs. work p bare h l (k v) vs) (eval p at_ h l e n) (λ v. (x v).at_once) (eval_traces p y [] choices line h l e n) (λ v. (x v).traces);
     is = after_bind (eval p at_ h l e n) c ∙ (λ i. bind (eval p at_ h l e n).end (λ v. (x v).is i)) ∙ sym (bind_bind (eval p at_ h l e n).end (λ v. (x v).at_once.end) does) ∙ ap (λ z. bind z does) (sym (after_bind (eval p at_ h l e n) (λ v. (x v).at_once)));
   }
 

@@ -37,8 +37,8 @@ module _ (here : ℕ) where
   Along [] F e = Finishes F e
   Along (r ∷ rs) F e = ((F []).end ≡ Gave (Reads r)) × Along rs (λ us. F (r ∷ us)) e
 
-  abbrev pub Traced : {A : Type 0} → (List Value → Outcome (Reading A)) → End A → Type 0
-  Traced F e = (rs : List Value) × Along rs F e
+  abbrev pub Traces : {A : Type 0} → (List Value → Outcome (Reading A)) → End A → Type 0
+  Traces F e = (rs : List Value) × Along rs F e
 
   finishes_same : {A : Type 0} (F G : List Value → Outcome (Reading A)) (e : End A) → ((us : List Value) → (F us).end ≡ (G us).end) → Finishes G e → Finishes F e
   finishes_same F G Misfit same x = x
@@ -58,7 +58,7 @@ module _ (here : ℕ) where
 
   then_along :
       {A B : Type 0} (rs : List Value) (F : List Value → Outcome (Reading A)) (G : A → List Value → Outcome (Reading B)) (w : Option Overflow) (e : End A) (f : A → Outcome B) → Along rs F e →
-      ((a : A) → Traced (G a) (f a).end) → Traced (λ us. after_reading (F us) G) (goes_on w e f).end
+      ((a : A) → Traces (G a) (f a).end) → Traces (λ us. after_reading (F us) G) (goes_on w e f).end
   then_along [] F G w Misfit f x k = absurd x
   then_along [] F G w (Failed n kind line) f x k = ([], stops_then kind line (F []).overflow (F []).end G x)
   then_along [] F G w (Gave a) f x k =
@@ -66,10 +66,10 @@ module _ (here : ℕ) where
   then_along (r ∷ rs) F G w e f x k =
       let y = then_along rs (λ us. F (r ∷ us)) G w e f x.1 k in (r ∷ y.0, (ap (λ e. (goes_on (F []).overflow e (λ r. with_reading r G)).end) x.0, y.1))
 
-  pub then_traced :
-      {A B : Type 0} (F : List Value → Outcome (Reading A)) (G : A → List Value → Outcome (Reading B)) (o : Outcome A) (f : A → Outcome B) → Traced F o.end →
-      ((a : A) → Traced (G a) (f a).end) → Traced (λ us. after_reading (F us) G) (after o f).end
-  then_traced F G o f x k = then_along x.0 F G o.overflow o.end f x.1 k
+  pub then_traces :
+      {A B : Type 0} (F : List Value → Outcome (Reading A)) (G : A → List Value → Outcome (Reading B)) (o : Outcome A) (f : A → Outcome B) → Traces F o.end →
+      ((a : A) → Traces (G a) (f a).end) → Traces (λ us. after_reading (F us) G) (after o f).end
+  then_traces F G o f x k = then_along x.0 F G o.overflow o.end f x.1 k
 
 late_same : (us : List Value) (v : Value) → (late_check us (Gives v) v).end ≡ Gave (Ends v us)
 late_same [] v = refl
@@ -82,72 +82,72 @@ module _ (p : Program) (x : Context) (some_choices choices : List Value) (line :
   abbrev at_ : Spot
   at_ = spot x choices line
 
-  read_traced : (may : Bool) (v : Value) (n : ℕ) → Traced line (λ us. next_read us may v) (check at_ may n Read (Gives v)).end
-  read_traced true v n = (v ∷ [], (refl, λ us. refl))
-  read_traced false v n = ([], (refl, refl))
+  read_traces : (may : Bool) (v : Value) (n : ℕ) → Traces line (λ us. next_read us may v) (check at_ may n Read (Gives v)).end
+  read_traces true v n = (v ∷ [], (refl, λ us. refl))
+  read_traces false v n = ([], (refl, refl))
 
-  range_traced : (b : Bool) (v : Value) (m n : ℕ) → Traced line (λ us. late_check us (check bare b m Range (Gives v)) v) (check at_ b n Range (Gives v)).end
-  range_traced true v m n = ([], λ us. late_same us v)
-  range_traced false v m n = ([], (refl, refl))
+  range_traces : (b : Bool) (v : Value) (m n : ℕ) → Traces line (λ us. late_check us (check bare b m Range (Gives v)) v) (check at_ b n Range (Gives v)).end
+  range_traces true v m n = ([], λ us. late_same us v)
+  range_traces false v m n = ([], (refl, refl))
 
-  operator_traced :
+  operator_traces :
       (d z b : Bool) (v : Value) (n : ℕ) →
-      Traced line (λ us. late_check us (if d then check bare z 0 Divide (check bare b (0 + 1) Range (Gives v)) else check bare b 0 Range (Gives v)) v) (if d then check at_ z n Divide (check at_ b (n + 1) Range (Gives v)) else check at_ b n Range (Gives v)).end
-  operator_traced true true b v n = range_traced b v (0 + 1) (n + 1)
-  operator_traced true false b v n = ([], (refl, refl))
-  operator_traced false z b v n = range_traced b v 0 n
+      Traces line (λ us. late_check us (if d then check bare z 0 Divide (check bare b (0 + 1) Range (Gives v)) else check bare b 0 Range (Gives v)) v) (if d then check at_ z n Divide (check at_ b (n + 1) Range (Gives v)) else check at_ b n Range (Gives v)).end
+  operator_traces true true b v n = range_traces b v (0 + 1) (n + 1)
+  operator_traces true false b v n = ([], (refl, refl))
+  operator_traces false z b v n = range_traces b v 0 n
 
-  truth_traced : (b : Expr) (n : ℕ) → Traced line (eval_with p bare h l b) (eval p at_ h l b n).end → Traced line (λ us. after_reading (eval_with p bare h l b us) (λ w ws. Gives (Ends (says (truth w)) ws))) (after (eval p at_ h l b n) (λ w. Gives (says (truth w)))).end
-  truth_traced b n x = then_traced line (eval_with p bare h l b) (λ w ws. Gives (Ends (says (truth w)) ws)) (eval p at_ h l b n) (λ w. Gives (says (truth w))) x (λ w. ([], λ us. refl))
+  truth_traces : (b : Expr) (n : ℕ) → Traces line (eval_with p bare h l b) (eval p at_ h l b n).end → Traces line (λ us. after_reading (eval_with p bare h l b us) (λ w ws. Gives (Ends (says (truth w)) ws))) (after (eval p at_ h l b n) (λ w. Gives (says (truth w)))).end
+  truth_traces b n x = then_traces line (eval_with p bare h l b) (λ w ws. Gives (Ends (says (truth w)) ws)) (eval p at_ h l b n) (λ w. Gives (says (truth w))) x (λ w. ([], λ us. refl))
 
-  and_traced :
-      (t : Bool) (b : Expr) (n : ℕ) → Traced line (eval_with p bare h l b) (eval p at_ h l b n).end →
-      Traced line (λ us. if t then after_reading (eval_with p bare h l b us) (λ w ws. Gives (Ends (says (truth w)) ws)) else Gives (Ends (says false) us)) (if t then after (eval p at_ h l b n) (λ w. Gives (says (truth w))) else Gives (says false)).end
-  and_traced true b n x = truth_traced b n x
-  and_traced false b n x = ([], λ us. refl)
+  and_traces :
+      (t : Bool) (b : Expr) (n : ℕ) → Traces line (eval_with p bare h l b) (eval p at_ h l b n).end →
+      Traces line (λ us. if t then after_reading (eval_with p bare h l b us) (λ w ws. Gives (Ends (says (truth w)) ws)) else Gives (Ends (says false) us)) (if t then after (eval p at_ h l b n) (λ w. Gives (says (truth w))) else Gives (says false)).end
+  and_traces true b n x = truth_traces b n x
+  and_traces false b n x = ([], λ us. refl)
 
-  or_traced :
-      (t : Bool) (b : Expr) (n : ℕ) → Traced line (eval_with p bare h l b) (eval p at_ h l b n).end →
-      Traced line (λ us. if t then Gives (Ends (says true) us) else after_reading (eval_with p bare h l b us) (λ w ws. Gives (Ends (says (truth w)) ws))) (if t then Gives (says true) else after (eval p at_ h l b n) (λ w. Gives (says (truth w)))).end
-  or_traced true b n x = ([], λ us. refl)
-  or_traced false b n x = truth_traced b n x
+  or_traces :
+      (t : Bool) (b : Expr) (n : ℕ) → Traces line (eval_with p bare h l b) (eval p at_ h l b n).end →
+      Traces line (λ us. if t then Gives (Ends (says true) us) else after_reading (eval_with p bare h l b us) (λ w ws. Gives (Ends (says (truth w)) ws))) (if t then Gives (says true) else after (eval p at_ h l b n) (λ w. Gives (says (truth w)))).end
+  or_traces true b n x = ([], λ us. refl)
+  or_traces false b n x = truth_traces b n x
 
-  choice_traced :
-      (t : Bool) (b c : Expr) (n m : ℕ) → Traced line (eval_with p bare h l b) (eval p at_ h l b n).end → Traced line (eval_with p bare h l c) (eval p at_ h l c m).end →
-      Traced line (λ us. if t then eval_with p bare h l b us else eval_with p bare h l c us) (if t then eval p at_ h l b n else eval p at_ h l c m).end
-  choice_traced true b c n m x y = x
-  choice_traced false b c n m x y = y
+  choice_traces :
+      (t : Bool) (b c : Expr) (n m : ℕ) → Traces line (eval_with p bare h l b) (eval p at_ h l b n).end → Traces line (eval_with p bare h l c) (eval p at_ h l c m).end →
+      Traces line (λ us. if t then eval_with p bare h l b us else eval_with p bare h l c us) (if t then eval p at_ h l b n else eval p at_ h l c m).end
+  choice_traces true b c n m x y = x
+  choice_traces false b c n m x y = y
 
-  pub eval_traced : (e : Expr) (n : ℕ) → Traced line (eval_with p bare h l e) (eval p at_ h l e n).end
-  eval_traced (Number z) n = ([], λ us. refl)
-  eval_traced Null n = ([], λ us. refl)
-  eval_traced (Variable i) n = ([], λ us. refl)
-  eval_traced (Field' q e f) n =
-      then_traced line (eval_with p bare h l e) _ (eval p at_ h l e n) _ (eval_traced e n) (λ v. read_traced (readable p at_ h (referent v) f) (read p h (referent v) f) (n + checks e))
-  eval_traced (Not' q e) n = then_traced line (eval_with p bare h l e) _ (eval p at_ h l e n) _ (eval_traced e n) (λ v. ([], λ us. refl))
-  eval_traced (Negate' q e c) n = then_traced line (eval_with p bare h l e) _ (eval p at_ h l e n) _ (eval_traced e n) (λ v. range_traced (in_range c (pos 0 -ℤ int v)) (Int (pos 0 -ℤ int v)) 0 (n + checks e))
-  eval_traced (Arithmetic' op q a r b c) n =
-      then_traced line (eval_with p bare h l a) _ (eval p at_ h l a n) _ (eval_traced a n) (λ v.
-      then_traced line (eval_with p bare h l b) _ (eval p at_ h l b (n + checks a)) _ (eval_traced b (n + checks a)) (λ w.
-      operator_traced (divides op) (not (is_zero_int (int w))) (in_range c (checked_result op (int v) (int w))) (Int (compute op (int v) (int w))) (n + checks a + checks b)
+  pub eval_traces : (e : Expr) (n : ℕ) → Traces line (eval_with p bare h l e) (eval p at_ h l e n).end
+  eval_traces (Number z) n = ([], λ us. refl)
+  eval_traces Null n = ([], λ us. refl)
+  eval_traces (Variable i) n = ([], λ us. refl)
+  eval_traces (Field' q e f) n =
+      then_traces line (eval_with p bare h l e) _ (eval p at_ h l e n) _ (eval_traces e n) (λ v. read_traces (readable p at_ h (referent v) f) (read p h (referent v) f) (n + checks e))
+  eval_traces (Not' q e) n = then_traces line (eval_with p bare h l e) _ (eval p at_ h l e n) _ (eval_traces e n) (λ v. ([], λ us. refl))
+  eval_traces (Negate' q e c) n = then_traces line (eval_with p bare h l e) _ (eval p at_ h l e n) _ (eval_traces e n) (λ v. range_traces (in_range c (pos 0 -ℤ int v)) (Int (pos 0 -ℤ int v)) 0 (n + checks e))
+  eval_traces (Arithmetic' op q a r b c) n =
+      then_traces line (eval_with p bare h l a) _ (eval p at_ h l a n) _ (eval_traces a n) (λ v.
+      then_traces line (eval_with p bare h l b) _ (eval p at_ h l b (n + checks a)) _ (eval_traces b (n + checks a)) (λ w.
+      operator_traces (divides op) (not (is_zero_int (int w))) (in_range c (checked_result op (int v) (int w))) (Int (compute op (int v) (int w))) (n + checks a + checks b)
       )
       )
-  eval_traced (Compare' k q a r b) n =
-      then_traced line (eval_with p bare h l a) _ (eval p at_ h l a n) _ (eval_traced a n) (λ v.
-      then_traced line (eval_with p bare h l b) _ (eval p at_ h l b (n + checks a)) _ (eval_traced b (n + checks a)) (λ w. ([], λ us. refl))
+  eval_traces (Compare' k q a r b) n =
+      then_traces line (eval_with p bare h l a) _ (eval p at_ h l a n) _ (eval_traces a n) (λ v.
+      then_traces line (eval_with p bare h l b) _ (eval p at_ h l b (n + checks a)) _ (eval_traces b (n + checks a)) (λ w. ([], λ us. refl))
       )
-  eval_traced (And' q a r b) n = then_traced line (eval_with p bare h l a) _ (eval p at_ h l a n) _ (eval_traced a n) (λ v. and_traced (truth v) b (n + checks a) (eval_traced b (n + checks a)))
-  eval_traced (Or' q a r b) n = then_traced line (eval_with p bare h l a) _ (eval p at_ h l a n) _ (eval_traced a n) (λ v. or_traced (truth v) b (n + checks a) (eval_traced b (n + checks a)))
-  eval_traced (Choose' q a r b t c) n =
-      then_traced line (eval_with p bare h l a) _ (eval p at_ h l a n) _ (eval_traced a n) (λ v. choice_traced (truth v) b c (n + checks a) (n + checks a + checks b) (eval_traced b (n + checks a)) (eval_traced c (n + checks a + checks b)))
-  eval_traced (Convert' q e c) n = then_traced line (eval_with p bare h l e) _ (eval p at_ h l e n) _ (eval_traced e n) (λ v. range_traced (in_range c (int v)) v 0 (n + checks e))
+  eval_traces (And' q a r b) n = then_traces line (eval_with p bare h l a) _ (eval p at_ h l a n) _ (eval_traces a n) (λ v. and_traces (truth v) b (n + checks a) (eval_traces b (n + checks a)))
+  eval_traces (Or' q a r b) n = then_traces line (eval_with p bare h l a) _ (eval p at_ h l a n) _ (eval_traces a n) (λ v. or_traces (truth v) b (n + checks a) (eval_traces b (n + checks a)))
+  eval_traces (Choose' q a r b t c) n =
+      then_traces line (eval_with p bare h l a) _ (eval p at_ h l a n) _ (eval_traces a n) (λ v. choice_traces (truth v) b c (n + checks a) (n + checks a + checks b) (eval_traces b (n + checks a)) (eval_traces c (n + checks a + checks b)))
+  eval_traces (Convert' q e c) n = then_traces line (eval_with p bare h l e) _ (eval p at_ h l e n) _ (eval_traces e n) (λ v. range_traces (in_range c (int v)) v 0 (n + checks e))
 
 -- Each value of the list is what comes with those before it.
-abbrev pub Prefixed : {A : Type 0} → (List Value → Outcome (Reading A)) → List Value → Type 0
-Prefixed F [] = Unit {0}
-Prefixed F (v ∷ vs) = ((F []).end ≡ Gave (Reads v)) × Prefixed (λ us. F (v ∷ us)) vs
+abbrev pub InTurn : {A : Type 0} → (List Value → Outcome (Reading A)) → List Value → Type 0
+InTurn F [] = Unit {0}
+InTurn F (v ∷ vs) = ((F []).end ≡ Gave (Reads v)) × InTurn (λ us. F (v ∷ us)) vs
 
-pub one_more : {A : Type 0} (F : List Value → Outcome (Reading A)) (vs : List Value) (v : Value) → Prefixed F vs → (F vs).end ≡ Gave (Reads v) → Prefixed F (vs ++ v ∷ [])
+pub one_more : {A : Type 0} (F : List Value → Outcome (Reading A)) (vs : List Value) (v : Value) → InTurn F vs → (F vs).end ≡ Gave (Reads v) → InTurn F (vs ++ v ∷ [])
 one_more F [] v x e = (e, tt)
 one_more F (u ∷ us) v x e = (x.0, one_more (λ ws. F (u ∷ ws)) us v x.1 e)
 
@@ -157,12 +157,12 @@ Fails (Failed n kind line) = Unit {0}
 Fails (Gave a) = ⊥
 
 -- how something ends at once, by how it ends with these values read before
-abbrev pub Completed : {A : Type 0} → End (Reading A) → End A → Type 0
-Completed Misfit e = ⊥
-Completed (Failed n kind line) e = Fails e
-Completed (Gave Refuses) e = Fails e
-Completed (Gave (Reads v)) e = Unit {0}
-Completed (Gave (Ends a us)) e = e ≡ Gave a
+abbrev pub EndsAtOnce : {A : Type 0} → End (Reading A) → End A → Type 0
+EndsAtOnce Misfit e = ⊥
+EndsAtOnce (Failed n kind line) e = Fails e
+EndsAtOnce (Gave Refuses) e = Fails e
+EndsAtOnce (Gave (Reads v)) e = Unit {0}
+EndsAtOnce (Gave (Ends a us)) e = e ≡ Gave a
 
 abbrev Coming : {A : Type 0} → End (Reading A) → Type 0
 Coming Misfit = ⊥
@@ -179,25 +179,25 @@ coming d (Gave (Reads v)) = v
 coming d (Gave (Ends a us)) = d
 
 module _ (here : ℕ) where
-  stops_completed : {A : Type 0} (kind : CheckKind) (line : ℕ) (x : End (Reading A)) (e : End A) → Fails e → Stops here kind line x → Completed x e
-  stops_completed kind line Misfit e f s = s
-  stops_completed kind line (Failed n k l) e f s = f
-  stops_completed kind line (Gave Refuses) e f s = f
-  stops_completed kind line (Gave (Reads v)) e f s = tt
-  stops_completed kind line (Gave (Ends a us)) e f s = absurd s
+  stops_at_once : {A : Type 0} (kind : CheckKind) (line : ℕ) (x : End (Reading A)) (e : End A) → Fails e → Stops here kind line x → EndsAtOnce x e
+  stops_at_once kind line Misfit e f s = s
+  stops_at_once kind line (Failed n k l) e f s = f
+  stops_at_once kind line (Gave Refuses) e f s = f
+  stops_at_once kind line (Gave (Reads v)) e f s = tt
+  stops_at_once kind line (Gave (Ends a us)) e f s = absurd s
 
-  finishes_completed : {A : Type 0} (F : List Value → Outcome (Reading A)) (e : End A) → Finishes here F e → Completed (F []).end e
-  finishes_completed F Misfit x = absurd x
-  finishes_completed F (Failed n kind line) x = stops_completed kind line (F []).end (Failed n kind line) tt x
-  finishes_completed F (Gave a) x = subst (λ y. Completed y (Gave a)) (sym (x [])) refl
+  finishes_at_once : {A : Type 0} (F : List Value → Outcome (Reading A)) (e : End A) → Finishes here F e → EndsAtOnce (F []).end e
+  finishes_at_once F Misfit x = absurd x
+  finishes_at_once F (Failed n kind line) x = stops_at_once kind line (F []).end (Failed n kind line) tt x
+  finishes_at_once F (Gave a) x = subst (λ y. EndsAtOnce y (Gave a)) (sym (x [])) refl
 
   not_coming : {A : Type 0} (F : List Value → Outcome (Reading A)) (e : End A) (v : Value) → Finishes here F e → (F []).end ≡ Gave (Reads v) → ⊥
   not_coming F Misfit v x c = x
   not_coming F (Failed n kind line) v x c = subst (Stops here kind line) c x
   not_coming F (Gave a) v x c = subst Coming (sym c ∙ x []) tt
 
-  pub complete : {A : Type 0} (vs rs : List Value) (F : List Value → Outcome (Reading A)) (e : End A) → Along here rs F e → Prefixed F vs → Completed (F vs).end e
-  complete [] [] F e x y = finishes_completed F e x
-  complete [] (r ∷ rs) F e x y = subst (λ z. Completed z e) (sym x.0) tt
+  pub complete : {A : Type 0} (vs rs : List Value) (F : List Value → Outcome (Reading A)) (e : End A) → Along here rs F e → InTurn F vs → EndsAtOnce (F vs).end e
+  complete [] [] F e x y = finishes_at_once F e x
+  complete [] (r ∷ rs) F e x y = subst (λ z. EndsAtOnce z e) (sym x.0) tt
   complete (v ∷ vs) [] F e x y = absurd (not_coming F e v x y.0)
   complete (v ∷ vs) (r ∷ rs) F e x y = complete vs rs (λ us. F (v ∷ us)) e (subst (λ u. Along here rs (λ us. F (u ∷ us)) e) (ap (coming v) (sym x.0 ∙ y.0)) x.1) y.1

@@ -48,8 +48,9 @@ with_reads t us reads u = if u == t then us else reads u
 abbrev pub answer_alone : Answer → FineState → FineStep
 answer_alone answer f = record { answer = answer; reads = f.reads }
 
+-- an event of thread t; its item has this line, and `fits` says whether it takes these choices
 module _ (p : Program) (f : FineState) (t : ℕ) (choices : List Value) (fits : Bool) (line : ℕ) where
-  -- The event of a read takes no choices, and leaves the state; that of the item's end takes the machine's, and does what the machine does.
+  -- The event of a read takes no choices, and leaves the state; the item's last event takes the machine's choices, and does what the machine does.
   abbrev pub reading_step : Reading Finish → FineStep
   reading_step Refuses = answer_alone (if no_choices choices then Faulted Read line else NotEnabled) f
   reading_step (Reads v) =
@@ -61,12 +62,13 @@ module _ (p : Program) (f : FineState) (t : ℕ) (choices : List Value) (fits : 
       then record { answer = answer_of p f.state t (finish (Fresh (next_number f.state.threads)) choices f.state.heap).end; reads = with_reads t [] f.reads }
       else answer_alone NotEnabled f
 
-  -- a check that fails before it comes to one more read has the machine's choices too
+  -- where a check fails before one more read, the event is the item's last
   abbrev pub end_step : End (Reading Finish) → FineStep
   end_step Misfit = answer_alone NotEnabled f
   end_step (Failed n kind at_line) = answer_alone (if fits then Faulted kind at_line else NotEnabled) f
   end_step (Gave r) = reading_step r
 
+-- a thread that isn't there, or has ended, takes no step
 abbrev pub frames_step : Program → FineState → Event → List Activation → FineStep
 frames_step p f e [] = answer_alone NotEnabled f
 frames_step p f e (a ∷ below) =
@@ -76,6 +78,7 @@ frames_step p f e (a ∷ below) =
 abbrev pub fine_step : Program → FineState → Event → FineStep
 fine_step p f e = frames_step p f e (frames_of e.thread f.state.threads)
 
+-- a fault leaves all as it was
 abbrev pub next_by : FineState → Answer → (ℕ → List Value) → FineState
 next_by f NotEnabled reads = f
 next_by f (Faulted kind line) reads = f
