@@ -20,7 +20,7 @@ pub data Reading (A : Type 0) : Type 0 where
   Reads : Value → Reading A
   Ends : A → List Value → Reading A
 
--- one text behind another
+-- one text and then another
 abbrev pub with_reading : {A B : Type 0} → Reading A → (A → List Value → Outcome (Reading B)) → Outcome (Reading B)
 with_reading Refuses f = Gives Refuses
 with_reading (Reads v) f = Gives (Reads v)

@@ -34,10 +34,12 @@ use Rattle.method.specs.Expressions.{Outcome, Unfit, Gives, after, Spot, check_e
 use Rattle.method.specs.Actions.{Place, InLocal, InField, Supply, Progress, Valued, no_tally, target_checks, right_checks, claimed_checks, list_checks, new_claim, claim_tests, claim_made, take_object, malloc, right_side, store, owned_change, end_claim, run_list, listed_exprs, block_end, wrap_object, unwrap_object, free, spawn, run_action, action_fits, no_choices, spot, starting}
 use Rattle.method.specs.Machine.{Remaining, Run, Test, WrapAgain, Receive, Activation, Turn, end_line, action_turn, moved, call_turn, return_turn}
 
+-- what is left to do is here; or an expression comes first, and its value says how the plan goes on
 pub data Plan (A : Type 0) : Type 0 where
   Rest : A → Plan A
   Work : Expr → (Value → Plan A) → Plan A
 
+-- expressions in a row
 abbrev pub work_all : {A : Type 0} → List Expr → (List Value → Plan A) → Plan A
 work_all [] k = k []
 work_all (e ∷ es) k = Work e (λ v. work_all es (λ vs. k (v ∷ vs)))
@@ -82,6 +84,7 @@ module _ (p : Program) where
       )
 
   module _ (l : List Value) where
+    -- a claim that is made, by its site
     abbrev pub site_plan : {A : Type 0} → Option ClaimSite → Place → ℕ → (Effect Valued → Plan A) → Plan A
     site_plan None place n k = k (λ at_ g. Unfit)
     site_plan (Some site) place n k = objects_plan l site.claimed.items (λ objects. k (claim_rest site objects place n))
@@ -93,6 +96,7 @@ module _ (p : Program) where
     right_plan (NewClaim s) place n k = site_plan (slice_get p.sites.items s) place n k
     right_plan (Interlocked e f op then') place n k = k (λ at_ g. right_side p at_ (Interlocked e f op then') place n no_tally g)
 
+    -- statements that blocks hold too
     abbrev pub simple_plan : {A : Type 0} → Simple → (Effect Progress → Plan A) → Plan A
     simple_plan (Assign t r) k =
         left_plan t (λ place.
@@ -105,6 +109,7 @@ module _ (p : Program) where
     simple_plan (EndClaim q e es) k =
         Work e (λ c. work_all es.items (λ vs. k (λ at_ g. end_claim p at_ (referent c) (map referent vs) (0 + checks e + all_checks es.items) no_tally g)))
 
+    -- an action of code
     abbrev pub action_plan : {A : Type 0} → Action → (Effect Progress → Plan A) → Plan A
     action_plan (Simply s) k = simple_plan s k
     action_plan (Declare i) k = k (λ at_ g. run_action p at_ (Declare i) 0 g)
@@ -140,10 +145,12 @@ module _ (p : Program) (a : Activation) where
   abbrev pub moves : ℕ → List Remaining → List Activation → Plan Finish
   moves line code below = Rest (λ supply choices h. Gives (moved p line a code below h))
 
+  -- the effect of an action, with the choices of the event
   abbrev pub acts : ℕ → List Remaining → List Activation → Effect Progress → Plan Finish
   acts line code below effect =
       Rest (λ supply choices h. action_turn p line a code below (effect (spot a.context choices line) (starting h a.locals supply)))
 
+  -- the function ends with this value
   abbrev pub returns : ℕ → Value → List Activation → Plan Finish
   returns line v below = Rest (λ supply choices h. return_turn p line v a below h)
 
@@ -172,6 +179,7 @@ module _ (p : Program) (a : Activation) where
   turn_plan (WrapAgain line ty o ∷ code) below = acts line code below (λ at_. wrap_object p (spot a.context [] line) ty o 0)
   turn_plan (Receive line place c ∷ code) below = Rest (λ supply choices h. Unfit)
 
+  -- the line of its checks
   abbrev pub item_line : List Remaining → ℕ
   item_line [] = end_line (slice_get p.functions.items a.context.function)
   item_line (Run (Do line x) ∷ code) = line
