@@ -8,6 +8,7 @@ use Rattle.condition_meaning.specs.Languages.{language_of}
 use Rattle.condition_meaning.specs.Promises.{ConditionsAreValid}
 use Rattle.c_types.specs.Typed.{IsProgramOf}
 use Rattle.tree_forms.proofs.FormLaw.{form_law}
+use Rattle.grain_law.proofs.Law.{safe_is_safe_in_fine_steps}
 use Rattle.typed_conditions.specs.Laws.{SourcesAreAnnotated, SourcesAreSafe}
 use Rattle.cert_format.specs.Derivations.{Derivation}
 use Rattle.cert_format.specs.Text.{Proofs}
@@ -59,13 +60,14 @@ module _ (m : Map) (name : List ℕ) (p : Program) (few : length (conditions p) 
         ),
       ))
 
--- a source whose program has valid conditions is safe
+-- a source whose program has valid conditions is safe, in fine steps too
 pub safe_source : (source : List ℕ) (p : Program) → IsProgramOf source p → SourcesAreAnnotated → SourcesAreSafe → (IsLayered (language_of p) → IsFaithful (language_of p) → ConditionsAreValid p) → IsSafeSource source
 safe_source source p is annotated safe valid =
     let reads = is.reads in
     let form = form_law source reads.items reads.end reads.text in
     let both = annotated reads.items reads.end form reads.typed p reads.tables_are in
-    record { program = p; reads = is; safe = safe reads.items reads.end form reads.typed p reads.tables_are (valid both.1 both.0) }
+    let at_once = safe reads.items reads.end form reads.typed p reads.tables_are (valid both.1 both.0) in
+    record { program = p; reads = is; safe = at_once; in_fine_steps = safe_is_safe_in_fine_steps p is.well_formed at_once }
 
 -- so is what a name holds
 pub holds_safe : (m : Map) (name : List ℕ) (p : Program) → HoldsProgram m name p → SourcesAreAnnotated → SourcesAreSafe → (IsLayered (language_of p) → IsFaithful (language_of p) → ConditionsAreValid p) → HoldsSafe m name

@@ -8,6 +8,7 @@ use Rattle.c_source.specs.Sources.{IsText, IsWithinLimits}
 use Rattle.c_types.specs.Typed.{IsProgramOf}
 use Rattle.method.specs.declared.program.Program.{Program}
 use Rattle.method.specs.Machine.{Safe}
+use Rattle.grain_law.specs.FineSteps.{SafeInFineSteps}
 use Rattle.conditions.specs.Conditions.{conditions}
 use Rattle.cert_format.specs.Text.{IsCertText, Proofs}
 use Rattle.condition_meaning.specs.Languages.{language_of}
@@ -49,10 +50,12 @@ pub record IsCheckOf (m : Map) (words : List (List ℕ)) (source cert : List ℕ
   pub cert_held : m cert_name ≡ Some cert
 
 -- the bytes read as a program that is safe: in every interleaving, from every good heap that meets main's precondition, no step faults, no claimed object is opened, and each step keeps the invariants
+-- Its steps are whole statements. It is safe in fine steps too, where other threads also act between two reads of one statement, and between a read and the use of its value.
 pub record IsSafeSource (source : List ℕ) : Type 0 where
   pub program : Program
   pub reads : IsProgramOf source program
   pub safe : Safe program
+  pub in_fine_steps : SafeInFineSteps program
 
 -- the name holds a source that is safe
 pub record HoldsSafe (m : Map) (name : List ℕ) : Type 0 where

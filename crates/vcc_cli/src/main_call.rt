@@ -50,16 +50,17 @@ fn run_command<S: Store, O: Sink>(
     }
 }
 
-/// Runs the command that the words are, and gives the status: 0 yes, all verified, a clean replay or a certificate that is
-/// written anew, 1 no, not all verified or a replay that stops, 2 no command, 3 source or schedule refused, 4 certificate refused, 5 a limit, 6 a name
-/// is missing or a read fault, 7 a write fault, 8 want of memory.
+/// Runs the command that the words are, and gives the status: 0 yes, all verified, a clean replay or a certificate that
+/// is written anew, 1 no, not all verified or a replay that stops, 2 no command, 3 source or schedule refused,
+/// 4 certificate refused, 5 a limit, 6 a name is missing or a read fault, 7 a write fault, 8 want of memory.
 pub fn vcc_main<S: Store, O: Sink>(
     alloc: Global,
     words: &[String],
     store: &mut S,
     out: &mut O,
 ) -> u8
-    // A yes of a check is sound: the source that the words name reads as a program that is safe in every interleaving.
+    // A yes of a check is sound: the source that the words name reads as a program that is safe in every interleaving,
+    // of whole statements and of single reads.
     ensures safe { (m : Map) → S.contents store.old ≡ Some m →
         (source cert : List ℕ) → IsCheck (texts words.now) source cert → result ≡ 0 → SourceIsSafe m (texts words.now) }
     // A check's yes only on acceptance.
