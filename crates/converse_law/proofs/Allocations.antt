@@ -15,7 +15,7 @@ use Rattle.method.specs.Machine.{fit_parameters}
 use Rattle.method.specs.Typing.{WellTyped}
 use Rattle.method.specs.Expressions.{Context, Gave, Unfit, Gives as GivesOut, after as outcome_after}
 use Rattle.method.specs.Actions as act
-use Rattle.method.specs.Actions.{Chosen, Progress, Took, Valued, spot, starting, fields_fit, contents_fit, malloc_fits, first_field, new_object}
+use Rattle.method.specs.Actions.{Chosen, Took, Valued, spot, starting, fields_fit, contents_fit, malloc_fits, first_field, new_object}
 use Rattle.method.proofs.Global.{both_and}
 use Rattle.terms.specs.Formula.{Formula}
 use Rattle.term_meaning.specs.Columns.{Modes, Owners}
@@ -25,7 +25,7 @@ use Rattle.axiom_instances.proofs.Kit as kit
 use Rattle.axiom_instances.proofs.Kit.{none, eq_given, given_has, node_has, either_given, both_given}
 use Rattle.axiom_instances.proofs.Facts.{Shown, is_absent_mode}
 use Rattle.axiom_instances.proofs.Maps.{set_has}
-use Rattle.conditions.specs.Formulas.{nat, me, eq, and', or', all_of, typ, mode, status, reference, heap}
+use Rattle.conditions.specs.Formulas.{nat, me, eq, typ, mode, status, reference}
 use Rattle.conditions.specs.Formulas as fs
 use Rattle.conditions.specs.Paths.{Done, Execution, Gives, after, facts}
 use Rattle.conditions.specs.Code.{Spot, State, ValueAndState, new_value, new_reference, new_heap}

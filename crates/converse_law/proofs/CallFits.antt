@@ -54,13 +54,14 @@ module _ (p : Program) (number : ℕ) (f : FunctionInfo) where
   fits_to hid is (Left (Local j)) r seen i o = tt
   fits_to hid is (Left (FieldOf c d)) r seen i o = fits_field hid is c (slice_get p.fields.items d) r seen i o
 
+  -- the arguments of a call, or of a start
+  pub fits_args : (hid : ℕ → Bool) (is : List ℕ) (g : Option FunctionInfo) (es : List Expr) → fitting.Seen p number f is hid → every (expr_in p f is) es ≡ true → call_ok p f g es ≡ true → FitsAll hid es
+  fits_args hid is None es seen i o = absurd (true≢false (sym o))
+  fits_args hid is (Some g) es seen i o = fits_all hid is (take g.parameters g.variables.items) es seen i (both_true (length es == g.parameters) (args_fit p f (take g.parameters g.variables.items) es) o).1
+
   pub fits_call : (hid : ℕ → Bool) (line : ℕ) (to : Receiver) (c : Option CType) (q : ℕ) (es : Vec Expr Global) → FitsOther p number f hid (Call line to c q es) → FitsAll hid es.items × FitsTo hid to
   fits_call hid line to c q es fits =
       let i = both_true (receiver_in p f fits.is to) (every (expr_in p f fits.is) es.items) fits.scoped in
       let o = both_true (call_ok p f (slice_get p.functions.items q) es.items) (receiver_ok p f to (result_values p f (slice_get p.functions.items q) c)) fits.typed in
       let seen = known_seen p f fits.is hid fits.place in
-      (by_callee (slice_get p.functions.items q) seen i.1 o.0, fits_to hid fits.is to (result_values p f (slice_get p.functions.items q) c) seen i.0 o.1)
-    where
-      by_callee : (g : Option FunctionInfo) → fitting.Seen p number f fits.is hid → every (expr_in p f fits.is) es.items ≡ true → call_ok p f g es.items ≡ true → FitsAll hid es.items
-      by_callee None seen i o = absurd (true≢false (sym o))
-      by_callee (Some g) seen i o = fits_all hid fits.is (take g.parameters g.variables.items) es.items seen i (both_true (length es.items == g.parameters) (args_fit p f (take g.parameters g.variables.items) es.items) o).1
+      (fits_args hid fits.is (slice_get p.functions.items q) es.items seen i.1 o.0, fits_to hid fits.is to (result_values p f (slice_get p.functions.items q) c) seen i.0 o.1)

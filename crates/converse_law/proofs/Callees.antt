@@ -89,8 +89,12 @@ module _ (p : Program) (T : Ref) (e : Environment (language_of p) T) where
       pub items_are : AreRefs l e.env (map (λ (d : Spec). term (translate p d (term_call me u ws))) g.writes.items) (act.items_of p g.writes.items (call_scene T h vs))
       items_are = writes_are p good q g there e.env (contracts q g there) me u T h ws vs fits is.has is.proper (has_me l T e) (arguments_are ws vs stand)
 
+      -- its requires clauses, in whichever thread
+      pub requires_of_thread : (w : Formula) (r : Ref) → Has l T e w (Refers r) → EachIs l e.env (map (λ (c : Clause). formula p c.spec (term_call w u ws)) g.requires_.items) (map (λ (z : Tested). z.holds) (clause_tests p g.requires_.items (call_scene r h vs)))
+      requires_of_thread w r has = each_tested g.requires_.items (term_call w u ws) (call_scene r h vs) (requires_are p good q g there e.env (contracts q g there) w u r h ws vs fits is.has is.proper has (arguments_are ws vs stand))
+
       pub requires_tested : EachIs l e.env (map (λ (c : Clause). formula p c.spec (term_call me u ws)) g.requires_.items) (map (λ (z : Tested). z.holds) (clause_tests p g.requires_.items (call_scene T h vs)))
-      requires_tested = each_tested g.requires_.items (term_call me u ws) (call_scene T h vs) (requires_are p good q g there e.env (contracts q g there) me u T h ws vs fits is.has is.proper (has_me l T e) (arguments_are ws vs stand))
+      requires_tested = requires_of_thread me T (has_me l T e)
 
       -- each item of its writes list may be written, or not
       module _ (a : Spot) (x : Context) (mine : x.me ≡ T) (line : ℕ) (s : SpotIs l T a x false [] e) where

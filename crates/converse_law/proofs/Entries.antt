@@ -9,7 +9,6 @@ use Rattle.method.specs.Machine.{in_types, all_true}
 use Rattle.terms.specs.Formula.{Formula}
 use Rattle.term_meaning.specs.Meaning.{Language, truth}
 use Rattle.term_meaning.proofs.Values.{stable_true}
-use Rattle.conditions.specs.Formulas.{me}
 use Rattle.conditions.specs.Symbolic.{Symbolic, term, ranges}
 use Rattle.conditions.specs.Paths.{Gives}
 use Rattle.conditions.specs.Code.{State, new_of}

@@ -1,21 +1,20 @@
 -- The path of plain code has no check that stands alone: only a claim that is made has one.
-use Rattle.conditions.specs.Formulas.{false_formula, me}
-use Rattle.std.proofs.Common.{◌≡◌, ℕ, zero, suc, ◌+◌, Bool, true, false, if◌then◌else◌, List, [], ◌∷◌, Option, Some, None, not, ◌||◌, ◌++◌, map, slice_get}
+use Rattle.conditions.specs.Formulas.{false_formula, and', closed, me}
+use Rattle.std.proofs.Common.{◌≡◌, ℕ, zero, suc, ◌+◌, Bool, true, false, List, [], ◌∷◌, Option, Some, None, not, ◌||◌, ◌++◌, map, slice_get, refl}
 use Rattle.object_types.specs.Sets.{every}
 use Rattle.method.proofs.Global.{and_both}
 use Rattle.method.specs.declared.program.DeclaredType.{DeclaredType}
-use Rattle.method.specs.declared.program.Operator.TheVariants as o
-use Rattle.method.specs.declared.program.Operator.{Operator}
 use Rattle.int_ranges.specs.declared.ctype.CType.{CType}
 use Rattle.method.specs.declared.program.Expr.{Expr}
-use Rattle.method.specs.declared.program.Expr.TheVariants as e
 use Rattle.method.specs.declared.program.Target.{Target}
-use Rattle.method.specs.declared.program.Target.TheVariants.{Local, FieldOf}
 use Rattle.method.specs.declared.program.RightSide.{RightSide}
 use Rattle.method.specs.declared.program.RightSide.TheVariants.{Compute, Malloc, NewClaim, Interlocked}
 use Rattle.method.specs.declared.program.OwnsChange.{OwnsChange}
-use Rattle.method.specs.declared.program.OwnsChange.TheVariants.{Assigned, Added, Removed}
+use Rattle.method.specs.declared.program.Simple.{Simple}
 use Rattle.method.specs.declared.program.Simple.TheVariants.{Assign, ChangeOwned, EndClaim}
+use Rattle.method.specs.declared.program.Inner.{Inner, Row_of-Inner, end_of-Inner, more_of-Inner}
+use Rattle.method.specs.declared.program.Inner.TheVariants.{Inside, InsideIf'}
+use Rattle.method.specs.declared.program.Listed.{Listed}
 use Rattle.method.specs.declared.program.Action.{Action}
 use Rattle.method.specs.declared.program.Action.TheVariants.{Simply, Declare, Define, WrapObject, UnwrapObject, AssertSpec, FreeObject, SpawnThread, Atomic}
 use Rattle.method.specs.declared.program.Spec.{Spec}
@@ -28,15 +27,20 @@ use Rattle.method.specs.Tables.{type_of_variable, type_of_field, struct_of}
 use Rattle.method.specs.declared.program.StructInfo.{StructInfo}
 use Rattle.method.specs.declared.program.Receiver.{Receiver}
 use Rattle.method.specs.declared.program.Receiver.TheVariants.{Nobody, NewVariable, Place as Left}
+use Rattle.method.specs.Actions.{listed_exprs}
 use Rattle.method.specs.Text.{reads, action_reads, is_quiet, specs_read, option_reads, clauses_read}
 use Rattle.terms.specs.Formula.{Formula}
 use Rattle.conditions.specs.Symbolic.{Symbolic, ranges, term, test}
-use Rattle.conditions.specs.Paths.{Path, Done, Check, Fact, Branch, Standalone, sequence, guarded, Execution, Gives, check_each, all_facts, after, fact}
-use Rattle.conditions.specs.Code.{Spot, State, ValueAndState, new_of, new_value, new_heap, arithmetic, code, all_code, all_symbolic, writable, call_scene, return_scene}
-use Rattle.conditions.specs.Actions.{Place, InLocal, InField, left_side, store, contents, malloc, convert_to, items_of, right_side, member_change, members_change, owned_change, run_action, clauses, conditional, wrap_object, unwrap_object}
+use Rattle.conditions.specs.Paths.{Path, Done, Check, Fact, Branch, Standalone, sequence, Execution, Gives, check_each, all_facts, after, fact}
+use Rattle.conditions.specs.Code.{Spot, State, ValueAndState, new_of, new_value, new_heap, new_reference, with_heap, wrapped, code, all_code, all_symbolic, writable, call_scene, return_scene}
+use Rattle.conditions.specs.Actions.{Place, InLocal, left_side, store, contents, malloc, convert_to, items_of, right_side, owned_change, run_simple, run_inner, run_row, run_list, atomic, block_end, inside_block, without_deferred, run_action, clauses, conditional, wrap_object, unwrap_object, transfer, start_thread, spawn}
 use Rattle.conditions.specs.Statements.{any_result, receiving_place, receive, call_effect, call, interference, havoc_one, havoc, turns, check_invariants, invariant_formulas, value_of, return_checks, stmt, stmts, body_end, body, is_set_by, frame_step, loop_exit, code_at, row_declares, row_returns}
 use Rattle.conditions.specs.Ways.{IsPlain}
-use Rattle.converse_law.specs.Plain.{is_plain_right, is_plain_action, is_plain_stmt, is_plain_row}
+use Rattle.conditions.proofs.PathTests.{IsChecks}
+use Rattle.converse_law.proofs.ChecksOnly.{code_checks, every_checks}
+use Rattle.converse_law.proofs.EndsBack.{end_checks}
+use Rattle.converse_law.proofs.SimpleInside.{left_checks, store_checks, conversion_checks, owned_checks, right_checks, finish_checks}
+use Rattle.converse_law.specs.Plain.{is_plain_right, is_plain_simple, is_plain_inner, is_plain_inner_row, is_plain_action, is_plain_stmt, is_plain_row}
 
 plain_sequence : (q r : Path) → IsPlain q → IsPlain r → IsPlain (sequence q r)
 plain_sequence Done r a b = b
@@ -45,12 +49,12 @@ plain_sequence (Fact f q) r a b = plain_sequence q r a b
 plain_sequence (Branch c q) r a b = (a.0, plain_sequence q r a.1 b)
 plain_sequence (Standalone f q) r a b = absurd a
 
-plain_guarded : (f : Formula) (q : Path) → IsPlain q → IsPlain (guarded f q)
-plain_guarded f Done a = tt
-plain_guarded f (Check g q) a = plain_guarded f q a
-plain_guarded f (Fact g q) a = plain_guarded f q a
-plain_guarded f (Branch c q) a = (plain_guarded f c a.0, plain_guarded f q a.1)
-plain_guarded f (Standalone g q) a = absurd a
+plain_checks_alone : (q : Path) → IsChecks q → IsPlain q
+plain_checks_alone Done i = tt
+plain_checks_alone (Check f q) i = plain_checks_alone q i
+plain_checks_alone (Fact f q) i = absurd i
+plain_checks_alone (Branch c q) i = absurd i
+plain_checks_alone (Standalone f q) i = absurd i
 
 plain_checks : {A : Type 0} (fs : List Formula) (t : Execution A) → IsPlain t.path → IsPlain (check_each fs t).path
 plain_checks [] t a = a
@@ -59,10 +63,6 @@ plain_checks (f ∷ fs) t a = plain_checks fs t a
 plain_facts : {A : Type 0} (fs : List Formula) (t : Execution A) → IsPlain t.path → IsPlain (all_facts fs t).path
 plain_facts [] t a = a
 plain_facts (f ∷ fs) t a = plain_facts fs t a
-
-plain_either : {A : Type 0} (b : Bool) (t u : Execution A) → IsPlain t.path → IsPlain u.path → IsPlain (if b then t else u).path
-plain_either true t u a b = a
-plain_either false t u a b = b
 
 plain_interference : (b q : Bool) (st : State) → IsPlain (interference b q st).path
 plain_interference true true st = tt
@@ -81,32 +81,11 @@ plain_havoc f is_set i (v ∷ vs) st = plain_sequence (havoc_one (is_set i) f i 
     by_test false = tt
 
 module _ (p : Program) (a : Spot) where
-  plain_arithmetic : (op : Operator) (c : CType) (x y : Formula) → IsPlain (arithmetic p a op c x y).path
-  plain_arithmetic o.Plus c x y = tt
-  plain_arithmetic o.Minus c x y = tt
-  plain_arithmetic o.Times c x y = tt
-  plain_arithmetic o.Over c x y = tt
-  plain_arithmetic o.Modulo c x y = tt
-
   plain_code : (x : Expr) (st : State) → IsPlain (code p a st x).path
-  plain_code (e.Number z) st = tt
-  plain_code e.Null st = tt
-  plain_code (e.Variable i) st = tt
-  plain_code (e.Field' q x g) st = plain_sequence (code p a st x).path _ (plain_code x st) tt
-  plain_code (e.Not' q x) st = plain_sequence (code p a st x).path _ (plain_code x st) tt
-  plain_code (e.Negate' q x c) st = plain_sequence (code p a st x).path _ (plain_code x st) tt
-  plain_code (e.Arithmetic' op q x r y c) st = plain_sequence (code p a st x).path _ (plain_code x st) (plain_sequence (code p a st y).path _ (plain_code y st) (plain_arithmetic op c _ _))
-  plain_code (e.Compare' op q x r y) st = plain_sequence (code p a st x).path _ (plain_code x st) (plain_sequence (code p a st y).path _ (plain_code y st) tt)
-  plain_code (e.And' q x r y) st = plain_sequence (code p a st x).path _ (plain_code x st) (plain_sequence (guarded _ (code p a st y).path) _ (plain_guarded _ (code p a st y).path (plain_code y st)) tt)
-  plain_code (e.Or' q x r y) st = plain_sequence (code p a st x).path _ (plain_code x st) (plain_sequence (guarded _ (code p a st y).path) _ (plain_guarded _ (code p a st y).path (plain_code y st)) tt)
-  plain_code (e.Choose' q x r y t z) st =
-      plain_sequence (code p a st x).path _ (plain_code x st)
-      (plain_sequence (guarded _ (code p a st y).path) _ (plain_guarded _ (code p a st y).path (plain_code y st)) (plain_sequence (guarded _ (code p a st z).path) _ (plain_guarded _ (code p a st z).path (plain_code z st)) tt))
-  plain_code (e.Convert' q x c) st = plain_sequence (code p a st x).path _ (plain_code x st) tt
+  plain_code x st = plain_checks_alone (code p a st x).path (code_checks p a x st)
 
   plain_all : (xs : List Expr) (st : State) → IsPlain (all_code p a st xs).path
-  plain_all [] st = tt
-  plain_all (x ∷ xs) st = plain_sequence (code p a st x).path _ (plain_code x st) (plain_sequence (all_code p a st xs).path _ (plain_all xs st) tt)
+  plain_all xs st = plain_checks_alone (all_code p a st xs).path (every_checks p a xs st)
 
   plain_symbolic : (xs : List Expr) (st : State) → IsPlain (all_symbolic p a st xs).path
   plain_symbolic [] st = tt
@@ -115,12 +94,10 @@ module _ (p : Program) (a : Spot) where
   -- Actions.
 
   plain_left : (t : Target) (st : State) → IsPlain (left_side p a t st).path
-  plain_left (Local i) st = tt
-  plain_left (FieldOf x g) st = plain_sequence (code p a st x).path _ (plain_code x st) tt
+  plain_left t st = plain_checks_alone (left_side p a t st).path (left_checks p a t st)
 
   plain_store : (place : Place) (w : Symbolic) (st : State) → IsPlain (store p a place w st).path
-  plain_store (InLocal i) w st = tt
-  plain_store (InField r g) w st = tt
+  plain_store place w st = plain_checks_alone (store p a place w st).path (store_checks p a place w st)
 
   plain_contents : (g n : ℕ) (st : State) → IsPlain (contents p a g n st).path
   plain_contents g zero st = tt
@@ -134,35 +111,66 @@ module _ (p : Program) (a : Spot) where
   plain_right (Compute x) place st d = plain_sequence (code p a st x).path _ (plain_code x st) tt
   plain_right (Malloc ty) place st d = plain_malloc ty (struct_of p ty) st
   plain_right (NewClaim n) place st d = absurd (cc)
-  plain_right (Interlocked x n op c) place st d = absurd (cc)
-
-  plain_member : (c : OwnsChange) (r q : Formula) (st : State) → IsPlain (member_change p a c r q st).path
-  plain_member Assigned r q st = tt
-  plain_member Added r q st = plain_either a.inside _ _ tt tt
-  plain_member Removed r q st = plain_either a.inside _ _ tt tt
-
-  plain_members : (c : OwnsChange) (r : Formula) (qs : List Formula) (st : State) → IsPlain (members_change p a c r qs st).path
-  plain_members c r [] st = tt
-  plain_members c r (q ∷ qs) st = plain_sequence (member_change p a c r q st).path _ (plain_member c r q st) (plain_members c r qs _)
+  plain_right (Interlocked x n op c) place st d = plain_checks_alone (right_side p a (Interlocked x n op c) place st).path (right_checks p a (Interlocked x n op c) place st refl)
 
   plain_owned : (c : OwnsChange) (r : Formula) (qs : List Formula) (st : State) → IsPlain (owned_change p a c r qs st).path
-  plain_owned Assigned r qs st = tt
-  plain_owned Added r qs st = plain_members Added r qs st
-  plain_owned Removed r qs st = plain_members Removed r qs st
+  plain_owned c r qs st = plain_checks_alone (owned_change p a c r qs st).path (owned_checks p a c r qs st)
+
+  plain_simple : (c : Simple) (st : State) → is_plain_simple c ≡ true → IsPlain (run_simple p a c st).path
+  plain_simple (Assign t r) st d = plain_sequence (left_side p a t st).path _ (plain_left t st) (plain_sequence (right_side p a r _ st).path _ (plain_right r _ st d) (plain_store _ _ _))
+  plain_simple (ChangeOwned c x xs) st d = plain_sequence (code p a st x).path _ (plain_code x st) (plain_sequence (all_code p a st xs.items).path _ (plain_all xs.items st) (plain_owned c _ _ st))
+  plain_simple (EndClaim q x xs) st d = plain_checks_alone (run_simple p a (EndClaim q x xs) st).path (end_checks p a q x xs st)
+
+  mutual
+    plain_inner : (i : Inner) (st : State) → is_plain_inner i ≡ true → IsPlain (run_inner p a i st).path
+    plain_inner (Inside line c) st d = plain_simple c st d
+    plain_inner (InsideIf' line x m ra n rb) st d =
+        let z = and_both (is_plain_inner_row ra) (is_plain_inner_row rb) d in
+        plain_sequence (code p a st x).path _ (plain_code x st) (plain_inner_row ra _ z.0, (plain_inner_row rb _ z.1, tt))
+
+    plain_inner_row : {m : _} (row : Row_of-Inner m) (st : State) → is_plain_inner_row row ≡ true → IsPlain (run_row p a row st).path
+    plain_inner_row end_of-Inner st d = tt
+    plain_inner_row (more_of-Inner i row) st d =
+        let z = and_both (is_plain_inner i) (is_plain_inner_row row) d in
+        plain_sequence (run_inner p a i st).path _ (plain_inner i st z.0) (plain_inner_row row (run_inner p a i st).gives z.1)
+
+  plain_list : (is : List Inner) (st : State) → every is_plain_inner is ≡ true → IsPlain (run_list p a is st).path
+  plain_list [] st d = tt
+  plain_list (i ∷ is) st d =
+      let z = and_both (is_plain_inner i) (every is_plain_inner is) d in
+      plain_sequence (run_inner p a i st).path _ (plain_inner i st z.0) (plain_list is (run_inner p a i st).gives z.1)
+
+plain_block : (p : Program) (a : Spot) (ls : List Listed) (body : List Inner) (st : State) → every is_plain_inner body ≡ true → IsPlain (atomic p a ls body st).path
+plain_block p a ls body st d =
+    let os = (all_code p a st (listed_exprs ls)).gives in
+    let inner = run_list p (inside_block a os) body (without_deferred st) in
+    let end = block_end p a ls os st.heap inner.gives in
+    plain_sequence (all_code p a st (listed_exprs ls)).path _ (plain_all p a (listed_exprs ls) st)
+    (plain_checks (map (closed st.heap) os) (after inner (λ st1. block_end p a ls os st.heap st1)) (plain_sequence inner.path end.path (plain_list p (inside_block a os) body (without_deferred st) d) (plain_checks_alone end.path (finish_checks p a ls os st.heap inner.gives))))
+
+module _ (p : Program) (a : Spot) where
+  plain_start : (g : FunctionInfo) (ws : List Symbolic) (items : List Formula) (u h1 : Formula) (st : State) → IsPlain (start_thread p a g ws items u h1 st).path
+  plain_start g ws items u h1 st = plain_checks (clauses p a g.requires_.items (call_scene u h1 ws)) (Gives (with_heap st h1)) tt
+
+  plain_spawn : (o : Option FunctionInfo) (ws : List Symbolic) (st : State) → IsPlain (spawn p a o ws st).path
+  plain_spawn None ws st = tt
+  plain_spawn (Some g) ws st =
+      let items = items_of p a g.writes.items (call_scene me st.heap ws) in
+      let u = new_reference st in
+      let h1 = transfer items (term u.value) st.heap in
+      plain_checks (map (λ o. and' (wrapped st o) (writable p a o)) items) (start_thread p a g ws items (term u.value) h1 u.state) (plain_start g ws items (term u.value) h1 u.state)
 
   module _ (f : FunctionInfo) where
     plain_action : (c : Action) (st : State) → is_plain_action c ≡ true → IsPlain (run_action p a f c st).path
-    plain_action (Simply (Assign t r)) st d = plain_sequence (left_side p a t st).path _ (plain_left t st) (plain_sequence (right_side p a r _ st).path _ (plain_right r _ st d) (plain_store _ _ _))
-    plain_action (Simply (ChangeOwned c x xs)) st d = plain_sequence (code p a st x).path _ (plain_code x st) (plain_sequence (all_code p a st xs.items).path _ (plain_all xs.items st) (plain_owned c _ _ st))
-    plain_action (Simply (EndClaim q x xs)) st d = absurd (cc)
+    plain_action (Simply c) st d = plain_simple p a c st d
     plain_action (Declare i) st d = plain_sequence (new_value (type_of_variable f i) st).path _ (plain_new (type_of_variable f i) st) tt
-    plain_action (Define i r) st d = plain_sequence (right_side p a r (InLocal i) st).path _ (plain_right r (InLocal i) st d) tt
-    plain_action (WrapObject ty q x) st d = plain_sequence (code p a st x).path _ (plain_code x st) tt
-    plain_action (UnwrapObject x) st d = plain_sequence (code p a st x).path _ (plain_code x st) tt
+    plain_action (Define i r) st d = plain_sequence (right_side p a r (InLocal i) st).path _ (plain_right p a r (InLocal i) st d) tt
+    plain_action (WrapObject ty q x) st d = plain_sequence (code p a st x).path _ (plain_code p a x st) tt
+    plain_action (UnwrapObject x) st d = plain_sequence (code p a st x).path _ (plain_code p a x st) tt
     plain_action (AssertSpec s) st d = tt
-    plain_action (FreeObject x) st d = plain_sequence (code p a st x).path _ (plain_code x st) tt
-    plain_action (SpawnThread g xs) st d = absurd (cc)
-    plain_action (Atomic ls body) st d = absurd (cc)
+    plain_action (FreeObject x) st d = plain_sequence (code p a st x).path _ (plain_code p a x st) tt
+    plain_action (SpawnThread g xs) st d = plain_sequence (all_symbolic p a st xs.items).path _ (plain_symbolic p a xs.items st) (plain_spawn (slice_get p.functions.items g) (all_symbolic p a st xs.items).gives st)
+    plain_action (Atomic ls body) st d = plain_block p a ls.items body.items st d
 
     plain_invariants : (invs : List Spec) (st : State) → IsPlain (check_invariants p f a invs st).path
     plain_invariants invs st = plain_checks (invariant_formulas p f a invs st) (Gives st) tt
@@ -177,7 +185,7 @@ module _ (p : Program) (a : Spot) where
 
     plain_return : (x : Option Expr) (st : State) → IsPlain (return_checks p f a x st).path
     plain_return None st = plain_checks (clauses p a f.ensures_.items (return_scene a.entry a.args st.heap (value_of p f a None st).gives)) (Gives st) tt
-    plain_return (Some x) st = plain_sequence (code p a st x).path _ (plain_code x st) (plain_checks (clauses p a f.ensures_.items (return_scene a.entry a.args st.heap (value_of p f a (Some x) st).gives)) (Gives st) tt)
+    plain_return (Some x) st = plain_sequence (code p a st x).path _ (plain_code p a x st) (plain_checks (clauses p a f.ensures_.items (return_scene a.entry a.args st.heap (value_of p f a (Some x) st).gives)) (Gives st) tt)
 
     plain_conditional : (declared : List ℕ) (st : State) (b : Formula) (r q : Bool) (first second : State → Execution State) → ((s : State) → IsPlain (first s).path) → ((s : State) → IsPlain (second s).path) → IsPlain (conditional declared st b r q first second).path
     plain_conditional declared st b r q first second one two = (one _, (two _, tt))
@@ -193,22 +201,21 @@ module _ (p : Program) (a : Spot) where
     plain_after t k h more = plain_sequence t.path (k t.gives).path h (more t.gives)
 
     plain_value : (x : Expr) (st : State) (k : Symbolic → Execution State) → ((w : Symbolic) → IsPlain (k w).path) → IsPlain (after (code_at p f a x st) k).path
-    plain_value x st k h = plain_sequence (code p a st x).path (k (code p a st x).gives).path (plain_code x st) (h (code p a st x).gives)
+    plain_value x st k h = plain_sequence (code p a st x).path (k (code p a st x).gives).path (plain_code p a x st) (h (code p a st x).gives)
 
     -- Calls.
 
     plain_place : (to : Receiver) (st : State) → IsPlain (receiving_place p f a to st).path
     plain_place Nobody st = tt
     plain_place (NewVariable i) st = tt
-    plain_place (Left t) st = plain_sequence (left_side p a t st).path _ (plain_left t st) tt
+    plain_place (Left t) st = plain_sequence (left_side p a t st).path _ (plain_left p a t st) tt
 
     plain_convert : (c : Option CType) (w : Symbolic) → IsPlain (convert_to p a c w).path
-    plain_convert None w = tt
-    plain_convert (Some c) w = tt
+    plain_convert c w = plain_checks_alone (convert_to p a c w).path (conversion_checks p a c w)
 
     plain_receive : (place : Option Place) (c : Option CType) (v : ValueAndState) → IsPlain (receive p f a place c v).path
     plain_receive None c v = plain_sequence (convert_to p a c v.value).path _ (plain_convert c v.value) tt
-    plain_receive (Some place) c v = plain_sequence (convert_to p a c v.value).path _ (plain_convert c v.value) (plain_store place _ v.state)
+    plain_receive (Some place) c v = plain_sequence (convert_to p a c v.value).path _ (plain_convert c v.value) (plain_store p a place _ v.state)
 
     plain_result : (o : Option DeclaredType) (st : State) → IsPlain (any_result p f a o st).path
     plain_result None st = tt
@@ -263,7 +270,7 @@ module _ (p : Program) (a : Spot) where
           let args : State → Option Place → Execution State = λ st1 place. after (all_symbolic p a st1 es.items) (λ ws. call p f a (slice_get p.functions.items g) ws place c st1) in
           plain_moves true false st (λ st1. after (receiving_place p f a to st1) (args st1))
           (λ st1. plain_sequence (receiving_place p f a to st1).path (args st1 (receiving_place p f a to st1).gives).path (plain_place to st1)
-          (plain_sequence (all_symbolic p a st1 es.items).path _ (plain_symbolic es.items st1) (plain_call (slice_get p.functions.items g) (all_symbolic p a st1 es.items).gives (receiving_place p f a to st1).gives c st1)))
+          (plain_sequence (all_symbolic p a st1 es.items).path _ (plain_symbolic p a es.items st1) (plain_call (slice_get p.functions.items g) (all_symbolic p a st1 es.items).gives (receiving_place p f a to st1).gives c st1)))
       plain_stmt (Return line x) st d =
           plain_moves (option_reads x || clauses_read f.ensures_.items) false st (λ st1. after (return_checks p f a x st1) (λ st2. fact false_formula (Gives st2)))
           (λ st1. plain_after (return_checks p f a x st1) (λ st2. fact false_formula (Gives st2)) (plain_return x st1) (λ st2. tt))

@@ -31,7 +31,7 @@ use Rattle.conditions_law.proofs.Samples.{store_is_verifiable}
 use Rattle.converse_law.specs.Samples.{StoreIsLocallySafe}
 
 -- what is given fails nowhere, nor do checks that hold
-none_fails : {A : Type 0} (label : ℕ) (a : A) → FailsAt label (Gives a) → ⊥
+pub none_fails : {A : Type 0} (label : ℕ) (a : A) → FailsAt label (Gives a) → ⊥
 none_fails label a y = let z = y.2 in cc
 
 two_pass : {A : Type 0} (label n m : ℕ) (at_ : MachineSpot) (b c : Bool) (a : A) → b ≡ true → c ≡ true → FailsAt label (check at_ b n Write (check at_ c m Writes (Gives a))) → ⊥
@@ -39,11 +39,11 @@ two_pass label n m at_ true true a i j y = none_fails label a y
 two_pass label n m at_ true false a i j y = absurd (cc)
 two_pass label n m at_ false c a i j y = absurd (cc)
 
-or_left : (b c : Bool) → b ≡ true → (b || c) ≡ true
+pub or_left : (b c : Bool) → b ≡ true → (b || c) ≡ true
 or_left true c h = refl
 or_left false c h = absurd (cc)
 
-if_true : (b : Bool) → (if truth (says b) then true else false) ≡ true → b ≡ true
+pub if_true : (b : Bool) → (if truth (says b) then true else false) ≡ true → b ≡ true
 if_true true h = refl
 if_true false h = absurd (cc)
 

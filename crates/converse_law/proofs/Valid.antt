@@ -1,5 +1,5 @@
 -- Where no local run of a plain function fails a check, the check's condition is valid.
-use Rattle.std.proofs.Common.{◌≡◌, ℕ, zero, suc, ◌≤◌, inl, inr, Bool, true, false, not, ◌||◌, if◌then◌else◌, List, [], ◌∷◌, ◌++◌, length, take, drop, slice_get, Some, refl, ap, sym, ◌∙◌, subst, arith, true≢false}
+use Rattle.std.proofs.Common.{◌≡◌, ℕ, suc, ◌≤◌, Bool, true, false, not, ◌||◌, if◌then◌else◌, List, [], ◌∷◌, ◌++◌, length, take, drop, slice_get, Some, refl, ap, sym, ◌∙◌, subst, arith}
 use Rattle.std.specs.Prelude.{nat_lt}
 use Rattle.std.proofs.lemmas.Bool.{eq-eqb, leb-true}
 use Rattle.object_types.specs.declared.references.Ref.{Ref}
@@ -7,16 +7,12 @@ use Rattle.object_types.specs.declared.values.Value.{Value}
 use Rattle.object_types.specs.References.{thread}
 use Rattle.object_types.specs.Sets.{every}
 use Rattle.method.specs.declared.program.Action.{Action}
-use Rattle.method.specs.declared.program.Action.TheVariants.{Simply, Declare, Define, WrapObject, UnwrapObject, AssertSpec, FreeObject, SpawnThread, Atomic}
-use Rattle.method.specs.declared.program.RightSide.TheVariants.{Compute, Malloc, NewClaim, Interlocked}
-use Rattle.method.specs.declared.program.Simple.TheVariants.{Assign, ChangeOwned, EndClaim}
 use Rattle.method.specs.declared.program.Spec.{Spec}
 use Rattle.method.specs.declared.program.Stmt.{Stmt, Row_of-Stmt, end_of-Stmt, more_of-Stmt}
 use Rattle.method.specs.declared.program.Stmt.TheVariants.{Do, If', While', DoWhile', Unwrapping', Call, Return}
-use Rattle.method.specs.declared.program.VariableInfo.{VariableInfo}
 use Rattle.method.specs.declared.program.FunctionInfo.{FunctionInfo}
 use Rattle.method.specs.declared.program.Program.{Program}
-use Rattle.method.specs.Tables.{local, in_type}
+use Rattle.method.specs.Tables.{local}
 use Rattle.method.specs.Scopes.{Scoped}
 use Rattle.method.specs.Typing.{WellTyped}
 use Rattle.method.specs.Expressions.{call_scene}
@@ -54,51 +50,28 @@ use Rattle.function_law.specs.Checks.{ValidAt, CheckIsValid}
 use Rattle.converse_law.proofs.Entries.{all_apart, take_many, more_types, values_back, all_are_true, entry_shown, valid_unless, all_threads}
 use Rattle.function_law.proofs.Given as given
 use Rattle.converse_law.proofs.Parts as parts
-use Rattle.function_law.proofs.Texts.{SpecText, WrapText, PlainText, ActionText}
-use Rattle.function_law.proofs.TextTests.{OtherText, is_other, text_said}
+use Rattle.function_law.proofs.Texts.{SpecText, WrapText, ActionText}
+use Rattle.function_law.proofs.TextTests.{OtherText, text_said}
 use Rattle.converse_law.proofs.BodiesBack as bodies
 use Rattle.converse_law.proofs.Plainness.{plain_body}
 use Rattle.converse_law.specs.Plain.{is_plain_action, is_plain_stmt, is_plain_row, is_plain}
 
 -- The text of a plain function.
 
-other_not_plain : (c : Action) → is_other c ≡ true → is_plain_action c ≡ true → ⊥
-other_not_plain (Simply (Assign t (Compute e))) o d = absurd (cc)
-other_not_plain (Simply (Assign t (Malloc ty))) o d = absurd (cc)
-other_not_plain (Simply (Assign t (NewClaim n))) o d = absurd (cc)
-other_not_plain (Simply (Assign t (Interlocked e n op c))) o d = absurd (cc)
-other_not_plain (Simply (ChangeOwned q e es)) o d = absurd (cc)
-other_not_plain (Simply (EndClaim q e es)) o d = absurd (cc)
-other_not_plain (Declare i) o d = absurd (cc)
-other_not_plain (Define i (Compute e)) o d = absurd (cc)
-other_not_plain (Define i (Malloc ty)) o d = absurd (cc)
-other_not_plain (Define i (NewClaim n)) o d = absurd (cc)
-other_not_plain (Define i (Interlocked e n op c)) o d = absurd (cc)
-other_not_plain (WrapObject ty q e) o d = absurd (cc)
-other_not_plain (UnwrapObject e) o d = absurd (cc)
-other_not_plain (AssertSpec e) o d = absurd (cc)
-other_not_plain (FreeObject e) o d = absurd (cc)
-other_not_plain (SpawnThread g es) o d = absurd (cc)
-other_not_plain (Atomic ls body) o d = absurd (cc)
-
 module _ (p : Program) (good : Annotated p) (number : ℕ) (f : FunctionInfo) (fis : slice_get p.functions.items number ≡ Some f) where
-  -- what is said of the actions and annotations of a plain text
-  abbrev PlainActs : Action → Type 0
-  PlainActs c = PlainText p good number f fis c × (is_plain_action c ≡ true)
-
   abbrev Acts : Action → Type 0
   Acts = ActionText p good number f fis (OtherText p number f)
+
+  -- what is said of the actions and annotations of a plain text
+  abbrev PlainActs : Action → Type 0
+  PlainActs c = Acts c × (is_plain_action c ≡ true)
 
   abbrev Specs : Spec → Type 0
   Specs e = SpecText p good number f fis e
 
-  plain_said : (c : Action) → is_plain_action c ≡ true → Acts c → PlainActs c
-  plain_said c d (inl said) = (said, d)
-  plain_said c d (inr other) = absurd (other_not_plain c other.other d)
-
   mutual
     stmt_said : (s : Stmt) → is_plain_stmt s ≡ true → fitting.TextStmt p number f Acts Specs (WrapText p f) s → fitting.TextStmt p number f PlainActs Specs (WrapText p f) s
-    stmt_said (Do line c) d said = plain_said c d said
+    stmt_said (Do line c) d said = (said, d)
     stmt_said (If' line in_ghost e m a n b) d said = let z = and_both (is_plain_row a) (is_plain_row b) d in (row_said a z.0 said.0, row_said b z.1 said.1)
     stmt_said (While' line invs e m row) d said = (said.0, row_said row d said.1)
     stmt_said (DoWhile' line invs m row tested e) d said = (said.0, row_said row d said.1)

@@ -1,4 +1,5 @@
 pub mod Direct
 pub mod Plain
 pub mod Laws
+pub mod Release
 pub mod Samples
