@@ -1,5 +1,5 @@
--- From an environment to a run, of a plain action: a direct one, an allocation whose value is stored, the start of a thread, a claim's end, or an atomic block.
-use Rattle.std.proofs.Common.{◌≡◌, ℕ, ◌+◌, inl, inr, ⊎_elim, Bool, true, false, pos, List, [], ◌∷◌, length, slice_set, slice_get, None, Some, Vec, Global, refl, sym, ◌∙◌, subst, arith, IsTrue}
+-- From an environment to a run, of an action: a direct one, an allocation or a claim whose value is stored, the start of a thread, a claim's end, or an atomic block.
+use Rattle.std.proofs.Common.{◌≡◌, ℕ, ◌+◌, inl, inr, ⊎_elim, Bool, true, false, not, pos, List, [], ◌∷◌, length, slice_set, slice_get, None, Some, Vec, Global, if◌then◌else◌, refl, ap, sym, ◌∙◌, subst, arith}
 use Rattle.object_types.specs.declared.references.Ref.{Ref}
 use Rattle.object_types.specs.declared.values.Value.{Value}
 use Rattle.object_types.specs.declared.values.Value.TheVariants.{Int}
@@ -21,11 +21,11 @@ use Rattle.method.specs.declared.program.Program.{Program}
 use Rattle.method.specs.Tables.{struct_of, is_struct}
 use Rattle.method.specs.Legal.{Good}
 use Rattle.method.specs.Machine.{fit_parameters}
-use Rattle.method.specs.Scopes.{target_in}
+use Rattle.method.specs.Scopes.{known, target_in, site_in}
 use Rattle.method.specs.Typing.{WellTyped, Refs, only_if, takes}
-use Rattle.method.specs.Expressions.{Context, Spot as MachineSpot, Outcome, Gave, after as outcome_after}
+use Rattle.method.specs.Expressions.{Context, Spot as MachineSpot, Outcome, Gave, Unfit, Gives as GivesOut, after as outcome_after}
 use Rattle.method.specs.Actions as act
-use Rattle.method.specs.Actions.{Chosen, Progress, Valued, spot, starting, fitting}
+use Rattle.method.specs.Actions.{Chosen, Progress, Took, Valued, spot, starting, fitting}
 use Rattle.method.specs.LocalRuns.{ActsTo, FailsAt}
 use Rattle.method.proofs.Global.{and_both}
 use Rattle.machine_laws.proofs.Claims.{Right}
@@ -60,21 +60,25 @@ use Rattle.action_conditions.proofs.Plain as plainly
 use Rattle.action_conditions.proofs.Scopes.{sees_in}
 use Rattle.action_conditions.proofs.Steady.{Steady}
 use Rattle.action_conditions.proofs.Stores.{on_gave, store_tests, stored_progress, ends_store, left_tests, plain_left, FitsLeft, ends_left, left_tested, left_is, store_tested, store_stated, storable_by}
-use Rattle.block_conditions.proofs.Acted.{at_less, still_hid}
-use Rattle.block_conditions.proofs.InScope.{ListHasFormulas}
+use Rattle.block_conditions.proofs.Acted.{at_less, still_hid, still_hid_other}
+use Rattle.block_conditions.proofs.Annotated.{entries_true, invs_true}
+use Rattle.block_conditions.proofs.InScope.{ListHasFormulas, see_site}
 use Rattle.block_conditions.proofs.Operands.{At}
+use Rattle.block_conditions.proofs.Seeing.{SeesSite}
 use Rattle.function_law.proofs.Given as given
 use Rattle.converse_law.proofs.Parts as parts
 use Rattle.function_law.proofs.Texts.{PlainText, ActionText}
 use Rattle.function_law.proofs.TextTests.{OtherText, is_other}
 use Rattle.converse_law.proofs.Allocations as allocations
 use Rattle.converse_law.proofs.Behind.{Behind}
-use Rattle.converse_law.proofs.BlocksBack.{none_some, block_formulas, behind_block}
+use Rattle.converse_law.proofs.BlocksBack.{none_some, block_formulas, chooses_block}
+use Rattle.converse_law.proofs.ClaimsBack.{TakesNext, next_reference}
+use Rattle.converse_law.proofs.ClaimSteps.{behind_assignment, behind_definition}
 use Rattle.converse_law.proofs.EndsBack.{behind_end}
 use Rattle.converse_law.proofs.StartsBack as starts
+use Rattle.converse_law.proofs.Supplied.{Chooses}
 use Rattle.converse_law.proofs.Paths.{Knows, at_number, none_fails, fails_front, fails_behind, none_declared, other_declared}
 use Rattle.converse_law.specs.Direct.{is_direct_action}
-use Rattle.converse_law.specs.Plain.{is_plain_action}
 
 -- what makes or ends a claim, starts a thread or is a block isn't direct
 not_direct : (c : Action) → is_other c ≡ true → is_direct_action c ≡ true → ⊥
@@ -107,25 +111,21 @@ fitted_fails label false o k y = absurd (cc)
 module _ (p : Program) (good : Annotated p) (typed : WellTyped p) (contracts : (n : ℕ) (g : FunctionInfo) → slice_get p.functions.items n ≡ Some g → ContractFits p g)
     (number : ℕ) (f : FunctionInfo) (fis : slice_get p.functions.items number ≡ Some f) (n0 : ℕ) (h0 : Heap) (args : List Value) (good0 : Good p h0) (fit : fit_parameters f args ≡ true)
   where
-    -- what is said of an action of an annotated text
-    abbrev Text : Action → Type 0
-    Text c = ActionText p good number f fis (OtherText p number f) c
-
-    -- a plain action, whose annotation fits and whose formulas are listed
+    -- an action whose annotation fits and whose formulas are listed
     abbrev pub ActText : Action → Type 0
-    ActText c = Text c × IsTrue (is_plain_action c)
+    ActText c = ActionText p good number f fis (OtherText p number f) c
 
-    direct_text : (c : Action) → is_direct_action c ≡ true → Text c → PlainText p good number f fis c
+    direct_text : (c : Action) → is_direct_action c ≡ true → ActText c → PlainText p good number f fis c
     direct_text c d (inl plain) = plain
     direct_text c d (inr other) = absurd (not_direct c other.other d)
 
     -- the formula of a claim's end is the program's
-    end_formula : (q : ℕ) (y : Expr) (ys : _) → Text (Simply (EndClaim q y ys)) → quantified_formula p q ≡ Some (listed_quantified q (length ys.items))
+    end_formula : (q : ℕ) (y : Expr) (ys : _) → ActText (Simply (EndClaim q y ys)) → quantified_formula p q ≡ Some (listed_quantified q (length ys.items))
     end_formula q y ys (inl plain) = absurd plain
     end_formula q y ys (inr other) = other.listed.0
 
     -- so are those of the ends in a block
-    ends_formulas : (ls : _) (body : _) → Text (Atomic ls body) → ListHasFormulas p body.items
+    ends_formulas : (ls : _) (body : _) → ActText (Atomic ls body) → ListHasFormulas p body.items
     ends_formulas ls body (inl plain) = absurd plain
     ends_formulas ls body (inr other) = block_formulas p body.items other.listed
 
@@ -340,12 +340,12 @@ module _ (p : Program) (good : Annotated p) (typed : WellTyped p) (contracts : (
       -- All of them.
       module _ (hid : ℕ → Bool) (line n : ℕ) where
         direct : (c : Action) → is_direct_action c ≡ true → (st : State) (h : Heap) (v : List Value) → Fits hid c → AllSorted f.variables.items st.locals → Matches hid st h v → All (facts (walk.run_action p a f c st).path) → Acted hid line n c st h v
-        direct c d st h v fits sorted m all = parts.act_back p good typed contracts number f fis n0 h0 args good0 fit e spotted hid line n c st h v tt (fits.0, (direct_text c d fits.1.0, d)) sorted m all
+        direct c d st h v fits sorted m all = parts.act_back p good typed contracts number f fis n0 h0 args good0 fit e spotted hid line n c st h v tt (fits.0, (direct_text c d fits.1, d)) sorted m all
 
         direct_fails : (label : ℕ) (c : Action) → is_direct_action c ≡ true → (st : State) (h : Heap) (v : List Value) → Fits hid c → AllSorted f.variables.items st.locals → Matches hid st h v → FailsIn (Unit {0}) (Knows l T e) label n (walk.run_action p a f c st).path tt → Breaks label line n c h v
-        direct_fails label c d st h v fits sorted m y = parts.act_fails p good typed contracts number f fis n0 h0 args good0 fit e spotted label hid line n c st h v tt (fits.0, (direct_text c d fits.1.0, d)) sorted m y
+        direct_fails label c d st h v fits sorted m y = parts.act_fails p good typed contracts number f fis n0 h0 args good0 fit e spotted label hid line n c st h v tt (fits.0, (direct_text c d fits.1, d)) sorted m y
 
-        -- a claim's end and a block, behind their paths
+        -- a claim's end, behind its path
         abbrev Goes : Action → State → Heap → List Value → Type 0
         Goes c st h v = Behind l T e n (walk.run_action p a f c st) (machine [] [] line n c h v) (λ g. At p f (spot x [] line) a hid (walk.run_action p a f c st).gives g e)
 
@@ -353,10 +353,33 @@ module _ (p : Program) (good : Annotated p) (typed : WellTyped p) (contracts : (
         stated st h v m = plainly.stated_of l typed T f x fis refl refl a [] line hid e st h v m.steady (parts.forth p good typed contracts number f fis n0 h0 args good0 fit e spotted hid st h v m)
 
         end_behind : (q : ℕ) (y : Expr) (ys : Vec Expr Global) (st : State) (h : Heap) (v : List Value) → Fits hid (Simply (EndClaim q y ys)) → Matches hid st h v → Goes (Simply (EndClaim q y ys)) st h v
-        end_behind q y ys st h v fits m = behind_end p good typed f x fis refl a hid e line [] q y ys n st (starting h v (Chosen [])) m.steady fits.0 (end_formula q y ys fits.1.0) (stated st h v m)
+        end_behind q y ys st h v fits m = behind_end p good typed f x fis refl a hid e line [] q y ys n st (starting h v (Chosen [])) m.steady fits.0 (end_formula q y ys fits.1) (stated st h v m)
 
-        block_behind : (ls : Vec Listed Global) (body : Vec Inner Global) (st : State) (h : Heap) (v : List Value) → Fits hid (Atomic ls body) → AllSorted f.variables.items st.locals → Matches hid st h v → Goes (Atomic ls body) st h v
-        block_behind ls body st h v fits sorted m = behind_block p good typed f x fis refl a hid e line [] ls body n st (starting h v (Chosen [])) m.steady refl refl fits.0 (ends_formulas ls body fits.1.0) sorted fits.1.1 (stated st h v m)
+        block_chooses : (ls : Vec Listed Global) (body : Vec Inner Global) (st : State) (h : Heap) (v : List Value) → Fits hid (Atomic ls body) → AllSorted f.variables.items st.locals → Matches hid st h v
+            → Chooses l T e n (walk.run_action p a f (Atomic ls body) st) (λ news. machine [] news line n (Atomic ls body) h v) (λ g. At p f (spot x [] line) a hid (walk.run_action p a f (Atomic ls body) st).gives g e)
+        block_chooses ls body st h v fits sorted m = chooses_block p good typed f x fis refl a hid e line [] ls body n st (starting h v (Chosen [])) m.steady refl refl fits.0 (ends_formulas ls body fits.1) sorted (stated st h v m)
+
+        -- a claim that is made: the run takes what the environment has for it
+        abbrev claim : State → Ref
+        claim st = next_reference p T e st
+
+        abbrev Makes : (ℕ → Bool) → Action → State → Heap → List Value → Type 0
+        Makes hid' c st h v = Behind l T e n (walk.run_action p a f c st) (machine [] (claim st ∷ []) line n c h v) (λ g. At p f (spot x [] line) a hid' (walk.run_action p a f c st).gives g e)
+
+        taken_next : (st : State) (h : Heap) (v : List Value) → TakesNext p T e st (starting h v (Chosen (claim st ∷ [])))
+        taken_next st h v = (Chosen [], λ fit. ap (λ (b : Bool). (if b then GivesOut {A = Took} (record { which = claim st; supply = Chosen [] }) else Unfit).end) fit)
+
+        sees_site : (c : Action) (k : ℕ) (fits : FitsAction p number f hid c) → site_in p f fits.is (slice_get p.sites.items k) ≡ true → SeesSite hid (slice_get p.sites.items k)
+        sees_site c k fits scoped = see_site p number f fits.is hid (known_seen p f fits.is hid fits.place) (slice_get p.sites.items k) scoped
+
+        assign_makes : (t : Target) (k : ℕ) (st : State) (h : Heap) (v : List Value) → Fits hid (Simply (Assign t (NewClaim k))) → Matches hid st h v → Makes hid (Simply (Assign t (NewClaim k))) st h v
+        assign_makes t k st h v fits m =
+            let b = and_both (target_in p f fits.0.is t) (site_in p f fits.0.is (slice_get p.sites.items k)) fits.0.scoped in
+            behind_assignment p typed f x fis refl a hid (invs_true p good T) (entries_true p good T) line e n k st (starting h v (Chosen (claim st ∷ []))) m.steady (taken_next st h v) (stated st h v m) (sees_site (Simply (Assign t (NewClaim k))) k fits.0 b.1) t fits.0.typed (sees_target hid (Simply (Assign t (NewClaim k))) fits.0 t b.0)
+
+        define_makes : (i k : ℕ) (st : State) (h : Heap) (v : List Value) → Fits hid (Define i (NewClaim k)) → Matches hid st h v → Makes (after_stmt (Do line (Define i (NewClaim k))) hid) (Define i (NewClaim k)) st h v
+        define_makes i k st h v fits m =
+            behind_definition p typed f x fis refl a hid (invs_true p good T) (entries_true p good T) line e n k st (starting h v (Chosen (claim st ∷ []))) m.steady (taken_next st h v) (stated st h v m) (sees_site (Define i (NewClaim k)) k fits.0 (and_both (site_in p f fits.0.is (slice_get p.sites.items k)) (not (known p f fits.0.is i)) fits.0.scoped).0) i (after_stmt (Do line (Define i (NewClaim k))) hid) (still_hid_other hid line (Define i (NewClaim k)) i refl) fits.0.typed
 
         goes_back : (c : Action) (st : State) (h : Heap) (v : List Value) → Fits hid c → action_declares c ≡ [] → act.action_fits p x.function c [] ≡ true → Matches hid st h v → Goes c st h v → All (facts (walk.run_action p a f c st).path) → Acted hid line n c st h v
         goes_back c st h v fits none chosen m b all =
@@ -366,14 +389,19 @@ module _ (p : Program) (good : Annotated p) (typed : WellTyped p) (contracts : (
         pub act_back : (c : Action) (st : State) (h : Heap) (v : List Value) → Fits hid c → AllSorted f.variables.items st.locals → Matches hid st h v → All (facts (walk.run_action p a f c st).path) → Acted hid line n c st h v
         act_back (Simply (Assign t (Compute y))) st h v fits sorted m all = direct (Simply (Assign t (Compute y))) refl st h v fits sorted m all
         act_back (Simply (Assign t (Malloc ty))) st h v fits sorted m all = assign_back hid line n t ty st h v fits m all
-        act_back (Simply (Assign t (NewClaim k))) st h v fits sorted m all = absurd (let z = fits.1.1 in cc)
+        act_back (Simply (Assign t (NewClaim k))) st h v fits sorted m all =
+            let c = Simply (Assign t (NewClaim k)) in
+            let y = (assign_makes t k st h v fits m).goes all in
+            acted hid line n c st h v fits m.steady [] (claim st ∷ []) y.0 refl y.1 (at_less p f (spot x [] line) a hid (after_stmt (Do line c) hid) (still_hid hid line c refl) (walk.run_action p a f c st).gives y.0 e y.2)
         act_back (Simply (Assign t (Interlocked y k op then'))) st h v fits sorted m all = absurd (none_taken t fits.0.typed)
         act_back (Simply (ChangeOwned o y ys)) st h v fits sorted m all = direct (Simply (ChangeOwned o y ys)) refl st h v fits sorted m all
         act_back (Simply (EndClaim q y ys)) st h v fits sorted m all = goes_back (Simply (EndClaim q y ys)) st h v fits refl refl m (end_behind q y ys st h v fits m) all
         act_back (Declare i) st h v fits sorted m all = direct (Declare i) refl st h v fits sorted m all
         act_back (Define i (Compute y)) st h v fits sorted m all = direct (Define i (Compute y)) refl st h v fits sorted m all
         act_back (Define i (Malloc ty)) st h v fits sorted m all = define_back hid line n i ty st h v fits m all
-        act_back (Define i (NewClaim k)) st h v fits sorted m all = absurd (let z = fits.1.1 in cc)
+        act_back (Define i (NewClaim k)) st h v fits sorted m all =
+            let y = (define_makes i k st h v fits m).goes all in
+            acted hid line n (Define i (NewClaim k)) st h v fits m.steady [] (claim st ∷ []) y.0 refl y.1 y.2
         act_back (Define i (Interlocked y k op then')) st h v fits sorted m all = absurd (none_taken (Local i) fits.0.typed)
         act_back (WrapObject ty q y) st h v fits sorted m all = direct (WrapObject ty q y) refl st h v fits sorted m all
         act_back (UnwrapObject y) st h v fits sorted m all = direct (UnwrapObject y) refl st h v fits sorted m all
@@ -382,19 +410,22 @@ module _ (p : Program) (good : Annotated p) (typed : WellTyped p) (contracts : (
         act_back (SpawnThread k ys) st h v fits sorted m all =
             let s = starts.start_back p good typed contracts number f fis n0 h0 args good0 fit e spotted hid line n k ys st h v fits.0 m all in
             acted hid line n (SpawnThread k ys) st h v fits m.steady [] s.news s.made refl s.gave s.there
-        act_back (Atomic ls body) st h v fits sorted m all = goes_back (Atomic ls body) st h v fits refl refl m (block_behind ls body st h v fits sorted m) all
+        act_back (Atomic ls body) st h v fits sorted m all =
+            let c = Atomic ls body in
+            let y = (block_chooses ls body st h v fits sorted m).goes all in
+            acted hid line n c st h v fits m.steady [] y.0 y.1 refl y.2 (at_less p f (spot x [] line) a hid (after_stmt (Do line c) hid) (still_hid hid line c refl) (walk.run_action p a f c st).gives y.1 e y.3)
 
         pub act_fails : (label : ℕ) (c : Action) (st : State) (h : Heap) (v : List Value) → Fits hid c → AllSorted f.variables.items st.locals → Matches hid st h v → FailsIn (Unit {0}) (Knows l T e) label n (walk.run_action p a f c st).path tt → Breaks label line n c h v
         act_fails label (Simply (Assign t (Compute y))) st h v fits sorted m b = direct_fails label (Simply (Assign t (Compute y))) refl st h v fits sorted m b
         act_fails label (Simply (Assign t (Malloc ty))) st h v fits sorted m b = assign_fails hid line n t ty st h v fits m label b
-        act_fails label (Simply (Assign t (NewClaim k))) st h v fits sorted m b = absurd (let z = fits.1.1 in cc)
+        act_fails label (Simply (Assign t (NewClaim k))) st h v fits sorted m b = broke label line n (Simply (Assign t (NewClaim k))) h v [] (claim st ∷ []) refl ((assign_makes t k st h v fits m).fails label b)
         act_fails label (Simply (Assign t (Interlocked y k op then'))) st h v fits sorted m b = absurd (none_taken t fits.0.typed)
         act_fails label (Simply (ChangeOwned o y ys)) st h v fits sorted m b = direct_fails label (Simply (ChangeOwned o y ys)) refl st h v fits sorted m b
         act_fails label (Simply (EndClaim q y ys)) st h v fits sorted m b = broke label line n (Simply (EndClaim q y ys)) h v [] [] refl ((end_behind q y ys st h v fits m).fails label b)
         act_fails label (Declare i) st h v fits sorted m b = direct_fails label (Declare i) refl st h v fits sorted m b
         act_fails label (Define i (Compute y)) st h v fits sorted m b = direct_fails label (Define i (Compute y)) refl st h v fits sorted m b
         act_fails label (Define i (Malloc ty)) st h v fits sorted m b = absurd (define_fails hid line n i ty st h v fits m label b)
-        act_fails label (Define i (NewClaim k)) st h v fits sorted m b = absurd (let z = fits.1.1 in cc)
+        act_fails label (Define i (NewClaim k)) st h v fits sorted m b = broke label line n (Define i (NewClaim k)) h v [] (claim st ∷ []) refl ((define_makes i k st h v fits m).fails label b)
         act_fails label (Define i (Interlocked y k op then')) st h v fits sorted m b = absurd (none_taken (Local i) fits.0.typed)
         act_fails label (WrapObject ty q y) st h v fits sorted m b = direct_fails label (WrapObject ty q y) refl st h v fits sorted m b
         act_fails label (UnwrapObject y) st h v fits sorted m b = direct_fails label (UnwrapObject y) refl st h v fits sorted m b
@@ -403,4 +434,4 @@ module _ (p : Program) (good : Annotated p) (typed : WellTyped p) (contracts : (
         act_fails label (SpawnThread k ys) st h v fits sorted m b =
             let s = starts.start_fails p good typed contracts number f fis n0 h0 args good0 fit e spotted hid line n k ys st h v fits.0 m label b in
             broke label line n (SpawnThread k ys) h v [] s.0 refl s.1
-        act_fails label (Atomic ls body) st h v fits sorted m b = broke label line n (Atomic ls body) h v [] [] refl ((block_behind ls body st h v fits sorted m).fails label b)
+        act_fails label (Atomic ls body) st h v fits sorted m b = let y = (block_chooses ls body st h v fits sorted m).fails label b in broke label line n (Atomic ls body) h v [] y.0 refl y.1

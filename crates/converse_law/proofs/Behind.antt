@@ -1,15 +1,15 @@
 -- A run behind a path, in one environment: where what the path says is known the run goes along it, and where a check of the path isn't known true the run fails there.
-use Rattle.std.proofs.Common.{◌≡◌, ℕ, suc, ◌+◌, ⊎_elim, Bool, true, false, if◌then◌else◌, List, [], ◌∷◌, length, refl, ap, sym, ◌∙◌, subst, arith}
+use Rattle.std.proofs.Common.{◌≡◌, ℕ, suc, ◌+◌, ⊎_elim, Bool, true, false, List, [], ◌∷◌, length, map, refl, ap, sym, ◌∙◌, subst, arith}
 use Rattle.object_types.specs.declared.references.Ref.{Ref}
 use Rattle.object_types.specs.Sets.{every}
 use Rattle.method.specs.declared.program.CheckKind.{CheckKind}
 use Rattle.method.specs.Expressions as m
-use Rattle.method.specs.Expressions.{Spot as MachineSpot, Outcome, End, Misfit, Failed, Gave}
+use Rattle.method.specs.Expressions.{Spot as MachineSpot, Outcome, Tested, End, Misfit, Failed, Gave}
 use Rattle.method.specs.LocalRuns.{FailsAt}
 use Rattle.method.proofs.Global.{both_and}
 use Rattle.terms.specs.Formula.{Formula}
 use Rattle.term_meaning.specs.Meaning.{Language}
-use Rattle.conditions.specs.Paths.{Path, Execution, Gives, after, check, check_each, facts, checks}
+use Rattle.conditions.specs.Paths.{Path, Execution, Gives, after, check, check_each, fact, standalone, facts, checks}
 use Rattle.conditions.specs.Ways.{AllHold, FailsIn}
 use Rattle.conditions.proofs.FromRuns.{Count, IsWithin}
 use Rattle.conditions.proofs.PathTests.{AllAre, IsChecks}
@@ -17,7 +17,7 @@ use Rattle.conditions.proofs.Tests.{after_gave}
 use Rattle.conditions.proofs.Ways.{facts_apart, fails_joined}
 use Rattle.conditions.proofs.WaysBetween.{all_between, fails_between}
 use Rattle.condition_meaning.proofs.Environments.{Environment, Holds, Is, is_false}
-use Rattle.condition_meaning.proofs.Known.{known_by, known_holds, unknown_fails}
+use Rattle.condition_meaning.proofs.Known.{Known, known_by, known_holds, unknown_fails}
 use Rattle.block_conditions.proofs.Beside.{Beside}
 use Rattle.converse_law.proofs.ChecksOnly.{Fits, none_false, one_false, so_already}
 use Rattle.converse_law.proofs.Paths.{Knows, at_number, fails_front, fails_behind}
@@ -52,10 +52,6 @@ module _ (l : Language) (T : Ref) (e : Environment l T) where
 
   pub behind_less : {A B : Type 0} (n : ℕ) (u : Execution B) (o : Outcome A) (More After : A → Type 0) → ((a : A) → o.end ≡ Gave a → More a → After a) → Behind n u o More → Behind n u o After
   behind_less n u o More After less b = record { goes = λ all. let x = b.goes all in (x.0, x.1, less x.0 x.1 x.2); fails = λ label y. b.fails label y }
-
-  pub behind_either : {A B : Type 0} (b : Bool) (n : ℕ) (u : Execution B) (o q : Outcome A) (After : A → Type 0) → (b ≡ true → Behind n u o After) → (b ≡ false → Behind n u q After) → Behind n u (if b then o else q) After
-  behind_either true n u o q After x y = x refl
-  behind_either false n u o q After x y = y refl
 
   behind_check : {A B : Type 0} (at_ : MachineSpot) (b : Bool) (n k : ℕ) (kind : CheckKind) (g : Formula) (u : Execution B) (o : Outcome A) (After : A → Type 0) → k ≡ n + 1 → Is l T e g b → (b ≡ true → Behind k u o After) → Behind n (check g u) (m.check at_ b n kind o) After
   behind_check at_ true n k kind g u o After place is rest = record {
@@ -95,3 +91,23 @@ module _ (l : Language) (T : Ref) (e : Environment l T) where
       by_fails label Misfit is fails = absurd (ends is)
       by_fails label (Failed other kind line) is fails = (kind, line, is ∙ ap (λ k. Failed k kind line) (one_false (Environment l T) (Holds l T) e other label n u.path only (breaks other (kind, line, is)) fails))
       by_fails label (Gave a) is fails = absurd (none_false (Environment l T) (Holds l T) e label n u.path only (passes a is).0 fails)
+
+  -- annotations' checks one after the other, each of a test
+  pub behind_specs : {A B : Type 0} (at_ : MachineSpot) (ts : List Tested) (n k : ℕ) (kind : CheckKind) (fs : List Formula) (u : Execution B) (o : Outcome A) (After : A → Type 0) → k ≡ n + length ts → AllAre (Is l T e) fs (map (λ (t : Tested). t.holds) ts) → (every (λ (t : Tested). t.holds) ts ≡ true → Behind k u o After) → Behind n (check_each fs u) (m.check_specs at_ ts n kind o) After
+  behind_specs at_ [] n k kind [] u o After place are rest = subst (λ i. Behind i u o After) (place ∙ omega arith) (rest refl)
+  behind_specs at_ [] n k kind (f ∷ fs) u o After place are rest = absurd are
+  behind_specs at_ (t ∷ ts) n k kind [] u o After place are rest = absurd are
+  behind_specs at_ (t ∷ ts) n k kind (f ∷ fs) u o After place are rest =
+      let b = behind_check at_ t.holds n (n + 1) kind f (check_each fs u) (m.check_specs at_ ts (n + 1) kind o) After refl are.0 (λ y. behind_specs at_ ts (n + 1) k kind fs u o After (place ∙ omega arith) are.1 (λ z. rest (both_and t.holds (every (λ (s : Tested). s.holds) ts) y z))) in
+      record { goes = λ all. b.goes all; fails = λ label y. b.fails label y }
+
+  -- behind a check that stands alone, of which nothing is known
+  pub behind_alone : {A B : Type 0} (n k : ℕ) (g : Formula) (u : Execution B) (o : Outcome A) (After : A → Type 0) → k ≡ n + 1 → Behind k u o After → Behind n (standalone g u) o After
+  behind_alone n k g u o After place b = record { goes = λ all. b.goes all; fails = λ label y. b.fails label (at_number (Unit {0}) (Knows l T e) tt label (suc n) k u.path (omega (arith, place)) y) }
+
+  -- behind a fact of new constants, from which it is known what the run takes
+  pub behind_new : {A B C : Type 0} (n : ℕ) (g : Formula) (u : Execution B) (o : Outcome A) (r : A → Outcome C) (After : C → Type 0) → (Known l T e g → (a : A) × (o.end ≡ Gave a) × Behind n u (r a) After) → Behind n (fact g u) (m.after o r) After
+  behind_new n g u o r After taken = record {
+    goes = λ all. let x = taken all.0 in let y = x.2.goes all.1 in (y.0, after_gave o r x.0 x.1 ∙ y.1, y.2);
+    fails = λ label y. let x = taken y.0 in fails_behind label o r x.0 x.1 (x.2.fails label y.1);
+  }

@@ -206,4 +206,4 @@ module _ (m : Memory) where
   release_local_ok (suc n) label f is t h args good fits requires y = absurd (cc)
 
 pub release_is_locally_safe : ReleaseIsLocallySafe
-release_is_locally_safe m = ((release_typed m, release_scoped m, release_fits m), refl, release_local_ok m)
+release_is_locally_safe m = ((release_typed m, release_scoped m, release_fits m), (λ n site is. absurd (cc)), release_local_ok m)

@@ -90,4 +90,4 @@ module _ (m : Memory) where
   store_local_ok (suc n) label f is t h args good fits requires y = absurd (cc)
 
 pub store_is_locally_safe : StoreIsLocallySafe
-store_is_locally_safe m = (store_is_verifiable m, refl, store_local_ok m)
+store_is_locally_safe m = (store_is_verifiable m, (λ n site is. absurd (cc)), store_local_ok m)

@@ -193,10 +193,10 @@ fits_deferred at_ test [] n o fits = fits
 fits_deferred at_ test (k ∷ ks) n o fits = fits_check at_ (test k.which).holds (n + k.place) Invariant (M.check_deferred at_ test ks n o) (fits_deferred at_ test ks n o fits)
 
 module _ (p : Program) (at_ : MachineSpot) where
-  fits_left : (t : Target) (n : ℕ) (g : Progress) → Fits (M.left_side p at_ t n g)
+  pub fits_left : (t : Target) (n : ℕ) (g : Progress) → Fits (M.left_side p at_ t n g)
   fits_left t n g = fits_tests (left_tests p at_ t g) n (plain_left p at_ t g) (M.left_side p at_ t n g) (ends_left p at_ t n g)
 
-  fits_store : (place : M.Place) (w : Value) (n : ℕ) (g : Progress) → Fits (M.store p at_ place w n g)
+  pub fits_store : (place : M.Place) (w : Value) (n : ℕ) (g : Progress) → Fits (M.store p at_ place w n g)
   fits_store place w n g = fits_tests (store_tests p at_ place g) n (stored_progress place w g) (M.store p at_ place w n g) (ends_store p at_ place w n g)
 
   fits_conversion : (to : Option CType) (w : Value) (n : ℕ) → Fits (M.convert_to at_ to w n)

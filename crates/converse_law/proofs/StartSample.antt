@@ -147,4 +147,4 @@ module _ (m : Memory) where
   start_local_ok (suc n) label f is t h args good fits requires y = absurd (cc)
 
 pub start_is_locally_safe : StartIsLocallySafe
-start_is_locally_safe m = ((start_typed m, start_scoped m, start_fits m), refl, start_local_ok m)
+start_is_locally_safe m = ((start_typed m, start_scoped m, start_fits m), (λ n site is. absurd (cc)), start_local_ok m)

@@ -1,15 +1,12 @@
--- Where no local run of a plain function fails a check, the check's condition is valid.
-use Rattle.std.proofs.Common.{◌≡◌, ℕ, suc, ◌≤◌, Bool, true, false, not, ◌||◌, if◌then◌else◌, List, [], ◌∷◌, ◌++◌, length, take, drop, slice_get, Some, refl, ap, sym, ◌∙◌, subst, arith}
+-- Where no local run of a function fails a check, the check's condition is valid.
+use Rattle.std.proofs.Common.{◌≡◌, ℕ, suc, ◌≤◌, Bool, true, false, not, ◌||◌, if◌then◌else◌, List, ◌++◌, length, take, drop, slice_get, Some, refl, ap, sym, ◌∙◌, subst, arith}
 use Rattle.std.specs.Prelude.{nat_lt}
 use Rattle.std.proofs.lemmas.Bool.{eq-eqb, leb-true}
 use Rattle.object_types.specs.declared.references.Ref.{Ref}
 use Rattle.object_types.specs.declared.values.Value.{Value}
 use Rattle.object_types.specs.References.{thread}
-use Rattle.object_types.specs.Sets.{every}
 use Rattle.method.specs.declared.program.Action.{Action}
 use Rattle.method.specs.declared.program.Spec.{Spec}
-use Rattle.method.specs.declared.program.Stmt.{Stmt, Row_of-Stmt, end_of-Stmt, more_of-Stmt}
-use Rattle.method.specs.declared.program.Stmt.TheVariants.{Do, If', While', DoWhile', Unwrapping', Call, Return}
 use Rattle.method.specs.declared.program.FunctionInfo.{FunctionInfo}
 use Rattle.method.specs.declared.program.Program.{Program}
 use Rattle.method.specs.Tables.{local}
@@ -19,7 +16,6 @@ use Rattle.method.specs.Expressions.{call_scene}
 use Rattle.method.specs.Actions.{clauses_hold}
 use Rattle.method.specs.Machine.{fit_parameters, requires_hold, in_types, zeros_of, begin_with}
 use Rattle.method.specs.LocalRuns.{Lazily, FailsBodyBy, LazyOk, LocalOk}
-use Rattle.method.proofs.Global.{and_both}
 use Rattle.quiet_law.proofs.LazyRuns.{lazy_runs_suffice}
 use Rattle.terms.specs.Formula.{Formula}
 use Rattle.term_meaning.specs.Meaning.{Language}
@@ -31,11 +27,10 @@ use Rattle.conditions.specs.Actions.{clauses}
 use Rattle.conditions.specs.Statements.{body, parameter_ranges, zeros, empty_state, entry_facts}
 use Rattle.conditions.specs.Conditions.{function_conditions}
 use Rattle.conditions.specs.Paths.{conditions}
-use Rattle.conditions.specs.Ways.{AllHold, FailsIn, IsValidAt, IsPlain}
+use Rattle.conditions.specs.Ways.{AllHold, FailsIn, IsValidAt}
 use Rattle.conditions.proofs.WaysBetween.{all_between, fails_between}
 use Rattle.condition_walks.proofs.Entry.{entry_values, entry_state, first_spot, entry_spot, run_conditions, entry_sorted, sorted_many, values_heap}
-use Rattle.condition_walks.proofs.Fitting as fitting
-use Rattle.condition_walks.proofs.Fitting.{ConversionsAreReceived, FitsBody, TextBody, at_entry, body_fits}
+use Rattle.condition_walks.proofs.Fitting.{ConversionsAreReceived, FitsBody, at_entry, body_fits}
 use Rattle.condition_meaning.specs.Languages.{language_of}
 use Rattle.condition_meaning.specs.Annotated.{Annotated}
 use Rattle.condition_meaning.specs.FunctionWords.{ContractFits}
@@ -43,7 +38,6 @@ use Rattle.condition_meaning.proofs.Environments.{Environment, Holds}
 use Rattle.condition_meaning.proofs.FunctionScenes.{contract_fits}
 use Rattle.condition_meaning.proofs.Interference.{good_of, heap_of}
 use Rattle.condition_meaning.proofs.Known.{Known, known_holds}
-use Rattle.condition_meaning.proofs.WalksBack.{fails_there}
 use Rattle.action_conditions.proofs.Annotations.{SetFits}
 use Rattle.method.specs.Tables.{struct_of}
 use Rattle.function_law.specs.Checks.{ValidAt, CheckIsValid}
@@ -53,45 +47,22 @@ use Rattle.converse_law.proofs.Parts as parts
 use Rattle.function_law.proofs.Texts.{SpecText, WrapText, ActionText}
 use Rattle.function_law.proofs.TextTests.{OtherText, text_said}
 use Rattle.converse_law.proofs.BodiesBack as bodies
-use Rattle.converse_law.proofs.Plainness.{plain_body}
-use Rattle.converse_law.specs.Plain.{is_plain_action, is_plain_stmt, is_plain_row, is_plain}
+use Rattle.converse_law.proofs.Sound.{SoundAt, fails_sound}
 
--- The text of a plain function.
+-- What is said of the actions and annotations of a function's text.
 
 module _ (p : Program) (good : Annotated p) (number : ℕ) (f : FunctionInfo) (fis : slice_get p.functions.items number ≡ Some f) where
   abbrev Acts : Action → Type 0
   Acts = ActionText p good number f fis (OtherText p number f)
 
-  -- what is said of the actions and annotations of a plain text
-  abbrev PlainActs : Action → Type 0
-  PlainActs c = Acts c × (is_plain_action c ≡ true)
-
   abbrev Specs : Spec → Type 0
   Specs e = SpecText p good number f fis e
-
-  mutual
-    stmt_said : (s : Stmt) → is_plain_stmt s ≡ true → fitting.TextStmt p number f Acts Specs (WrapText p f) s → fitting.TextStmt p number f PlainActs Specs (WrapText p f) s
-    stmt_said (Do line c) d said = (said, d)
-    stmt_said (If' line in_ghost e m a n b) d said = let z = and_both (is_plain_row a) (is_plain_row b) d in (row_said a z.0 said.0, row_said b z.1 said.1)
-    stmt_said (While' line invs e m row) d said = (said.0, row_said row d said.1)
-    stmt_said (DoWhile' line invs m row tested e) d said = (said.0, row_said row d said.1)
-    stmt_said (Unwrapping' line ty q e m row) d said = (said.0, row_said row d said.1)
-    stmt_said (Call line to c g es) d said = tt
-    stmt_said (Return line e) d said = tt
-
-    row_said : {m : _} (row : Row_of-Stmt m) → is_plain_row row ≡ true → fitting.TextRow p number f Acts Specs (WrapText p f) row → fitting.TextRow p number f PlainActs Specs (WrapText p f) row
-    row_said end_of-Stmt d said = tt
-    row_said (more_of-Stmt s row) d said = let z = and_both (is_plain_stmt s) (is_plain_row row) d in (stmt_said s z.0 said.0, row_said row z.1 said.1)
-
-  body_said : (ss : List Stmt) → every is_plain_stmt ss ≡ true → TextBody p number f Acts Specs (WrapText p f) ss → TextBody p number f PlainActs Specs (WrapText p f) ss
-  body_said [] d said = tt
-  body_said (s ∷ ss) d said = let z = and_both (is_plain_stmt s) (every is_plain_stmt ss) d in (stmt_said s z.0 said.0, body_said ss z.1 said.1)
 
 -- The entry.
 
 module _ (p : Program) (good : Annotated p) (typed : WellTyped p) (contracts : (n : ℕ) (g : FunctionInfo) → slice_get p.functions.items n ≡ Some g → ContractFits p g)
     (number : ℕ) (f : FunctionInfo) (fis : slice_get p.functions.items number ≡ Some f)
-    (fits : FitsBody p number f (PlainActs p good number f fis) (Specs p good number f fis) (WrapText p f) (entry_spot p f) (at_entry p f) f.body.items)
+    (fits : FitsBody p number f (Acts p good number f fis) (Specs p good number f fis) (WrapText p f) (entry_spot p f) (at_entry p f) f.body.items)
     (n0 label : ℕ)
   where
     abbrev l : Language
@@ -144,18 +115,16 @@ module _ (p : Program) (good : Annotated p) (typed : WellTyped p) (contracts : (
         let r = bodies.fails_body p good typed contracts number f fis n0 h0 args good0 fit e spotted label f.body.items (at_entry p f) 1 (entry_state f) h0 (args ++ zs) fits (entry_sorted f) m y2 in
         ok f fis n0 h0 args good0 fit requires (subst (λ o. FailsBodyBy p (given.x p good typed contracts number f fis n0 h0 args good0 fit) f (Lazily p T) label f.body.items 1 h0 (begin_with o (given.x p good typed contracts number f fis n0 h0 args good0 fit)).locals) (sym fis) r)
 
-    thread_valid : IsPlain path → LocalOk p number label → IsValidAt (Environment l T) (Holds l T) label 1 (function_conditions p (Some f))
+    thread_valid : SoundAt l label 1 path → LocalOk p number label → IsValidAt (Environment l T) (Holds l T) label 1 (function_conditions p (Some f))
     thread_valid along ok =
         let lazy_ok = (lazy_runs_suffice p number label).1 ok in
         subst (λ cs. IsValidAt (Environment l T) (Holds l T) label 1 cs) (sym (run_conditions p f))
-        (valid_unless l T label 1 (conditions known path) (λ e y. fails_there l T label 1 known path along e y (λ z. run_fails lazy_ok e z.0 z.1)))
+        (valid_unless l T label 1 (conditions known path) (λ e y. fails_sound l T e label 1 known path along y (λ z. run_fails lazy_ok e z.0 z.1)))
 
--- where no local run of a plain function fails a check, the check's condition is valid
+-- where no local run of a function fails a check, the check's condition is valid, if that is so of a check that stands alone
 pub check_valid : (p : Program) → Annotated p → WellTyped p → Scoped p → ConversionsAreReceived p → ((ty : ℕ) → SetFits p (struct_of p ty))
-    → (number label : ℕ) (f : FunctionInfo) → slice_get p.functions.items number ≡ Some f → is_plain f ≡ true → LocalOk p number label → CheckIsValid p number label
-check_valid p good typed scoped received sets number label f fis plain ok =
+    → (number label : ℕ) (f : FunctionInfo) → slice_get p.functions.items number ≡ Some f → SoundAt (language_of p) label 1 (body p f (entry_spot p f) f.body.items (entry_state f)).path → LocalOk p number label → CheckIsValid p number label
+check_valid p good typed scoped received sets number label f fis sound ok =
     let contracts = contract_fits p good typed in
-    let said = body_said p good number f fis f.body.items plain (text_said p f good sets number fis) in
-    let fits = body_fits p typed scoped received number f fis (PlainActs p good number f fis) (Specs p good number f fis) (WrapText p f) said (entry_spot p f) in
-    subst (λ g. ValidAt (language_of p) label 1 (function_conditions p g)) (sym fis)
-    (all_threads (language_of p) label 1 (function_conditions p (Some f)) (λ n0. thread_valid p good typed contracts number f fis fits n0 label (plain_body p (entry_spot p f) f f.body.items (entry_state f) plain) ok))
+    let fits = body_fits p typed scoped received number f fis (Acts p good number f fis) (Specs p good number f fis) (WrapText p f) (text_said p f good sets number fis) (entry_spot p f) in
+    subst (λ g. ValidAt (language_of p) label 1 (function_conditions p g)) (sym fis) (all_threads (language_of p) label 1 (function_conditions p (Some f)) (λ n0. thread_valid p good typed contracts number f fis fits n0 label sound ok))

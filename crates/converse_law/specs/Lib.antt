@@ -1,5 +1,5 @@
 pub mod Direct
-pub mod Plain
+pub mod Standing
 pub mod Laws
 pub mod Release
 pub mod Samples

@@ -1,21 +1,21 @@
 //! The laws, as contracts of functions that do nothing.
 
-ghost use Rattle.converse_law.specs.Laws.{NoConditionIsStronger, ConditionsAreExact, PlainProgramsAreComplete};
-ghost use Rattle.converse_law.specs.Samples.{StoreIsLocallySafe, ReleaseIsLocallySafe, StartIsLocallySafe, WorkerIsLocallySafe};
+ghost use Rattle.converse_law.specs.Laws.{OtherConditionsAreExact, StableSitesSuffice, ConditionsMeanExactly};
+ghost use Rattle.converse_law.specs.Samples.{StoreIsLocallySafe, ReleaseIsLocallySafe, StartIsLocallySafe, SharedConditionsAreValid};
 
-/// In code that makes no claim no condition is stronger than its check: where no local run fails the check, the condition is true in every environment.
-pub fn no_condition_is_stronger()
-    ensures { NoConditionIsStronger }
+/// A condition is valid exactly where no local run fails its check, but for that of a claim site, that what it claims is stable.
+pub fn other_conditions_are_exact()
+    ensures { OtherConditionsAreExact }
 {}
 
-/// So there a condition is valid exactly where no local run fails its check.
-pub fn conditions_are_exact()
-    ensures { ConditionsAreExact }
+/// And for that too, where what each claim site claims is stable.
+pub fn stable_sites_suffice()
+    ensures { StableSitesSuffice }
 {}
 
-/// A locally safe program of such functions has valid conditions of all their checks.
-pub fn plain_programs_are_complete()
-    ensures { PlainProgramsAreComplete }
+/// The conditions of a program are true in every environment exactly where it is admissible and no local run of its functions fails a check.
+pub fn conditions_mean_exactly()
+    ensures { ConditionsMeanExactly }
 {}
 
 /// The premises are met by a program that stores into an object.
@@ -33,7 +33,7 @@ pub fn premises_are_met_by_a_start()
     ensures { StartIsLocallySafe }
 {}
 
-/// Those of one function's law by a function that writes an object in an atomic block, while another thread writes it too.
-pub fn premises_are_met_by_a_block()
-    ensures { WorkerIsLocallySafe }
+/// All conditions are valid of a program in which one function makes a claim, and two threads write one object.
+pub fn shared_conditions_are_valid()
+    ensures { SharedConditionsAreValid }
 {}
