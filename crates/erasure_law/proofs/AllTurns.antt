@@ -42,7 +42,8 @@ use Rattle.plain_machine.specs.Erasure.{plain_heap, plain_frame}
 use Rattle.plain_machine.specs.GhostApart.{GhostApart, concrete_place, concrete_right, ghost_right, ghost_inners, ghost_inner, inner_apart, action_apart, concrete_statements}
 use Rattle.erasure_law.specs.ApartCode.{item_apart, code_apart, frames_apart}
 use Rattle.erasure_law.specs.Choices.{item_choices, frames_choices}
-use Rattle.erasure_law.specs.Laws.{Leads, LeadsIn, silent, silent_action, direct_item, concrete_code, concrete_frames}
+use Rattle.erasure_law.specs.Laws.{Leads, LeadsIn, silent, silent_action, concrete_code, concrete_frames}
+use Rattle.erasure_law.proofs.Direct.{direct_item}
 use Rattle.erasure_law.proofs.ValueKinds.{unghost}
 use Rattle.erasure_law.proofs.StoreTurns.{item_of, frame_is}
 use Rattle.erasure_law.proofs.ReturnTurns.{TopWaits}

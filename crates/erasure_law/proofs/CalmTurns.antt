@@ -39,7 +39,8 @@ use Rattle.plain_machine.specs.PlainSteps.{Comes, Yields, PlainFrame, PlainTurn,
 use Rattle.plain_machine.specs.Erasure.{concrete_locals, plain_heap, plain_frame}
 use Rattle.plain_machine.specs.GhostApart.{GhostApart, concrete, concrete_place, concrete_right, ghost_right, ghost_row, row_apart, store_apart, stmt_apart}
 use Rattle.erasure_law.specs.ApartCode.{item_apart}
-use Rattle.erasure_law.specs.Laws.{Leads, silent, silent_action, direct_action, direct_item}
+use Rattle.erasure_law.specs.Laws.{Leads, silent, silent_action}
+use Rattle.erasure_law.proofs.Direct.{direct_action, direct_item}
 use Rattle.erasure_law.specs.Choices.{malloc_choices, item_choices}
 use Rattle.erasure_law.proofs.FullChoices.{full_choices}
 use Rattle.erasure_law.proofs.Fits.{Fits, NotFailed, Calm, if_fits, after_fits, check_specs_fits, eval_fits, evals_fit}

@@ -40,7 +40,8 @@ use Rattle.plain_machine.specs.PlainCode.{Code, StoreItem, DeclareItem, Worth, N
 use Rattle.plain_machine.specs.PlainSteps.{Comes, Yields, PlainTurn}
 use Rattle.plain_machine.specs.GhostApart.{GhostApart, concrete, concrete_option, concrete_place, concrete_right, ghost_right, ghost_row, store_apart, args_apart, receiver_apart, action_apart, stmt_apart, row_apart}
 use Rattle.erasure_law.specs.ApartCode.{place_apart, item_apart, code_apart, frames_apart}
-use Rattle.erasure_law.specs.Laws.{Leads, silent, silent_action, direct_action, direct_item}
+use Rattle.erasure_law.specs.Laws.{Leads, silent, silent_action}
+use Rattle.erasure_law.proofs.Direct.{direct_action, direct_item}
 use Rattle.erasure_law.specs.Choices.{malloc_choices, item_choices}
 use Rattle.erasure_law.proofs.MallocTurns.{assign_new_goes, define_new_goes}
 use Rattle.erasure_law.proofs.ValueKinds.{unghost}

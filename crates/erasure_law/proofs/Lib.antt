@@ -1,3 +1,4 @@
+pub mod Direct
 pub mod Exprs
 pub mod Heaps
 pub mod Ghost

@@ -76,31 +76,6 @@ Leads p Waits turn = ⊥
 Leads p (Fails kind line) turn = ⊥
 Leads p (Yields plain) turn = Erases p plain turn
 
--- A concrete item that isn't a block.
-abbrev pub direct_action : Action → Bool
-direct_action (Simply s) = true
-direct_action (Declare i) = true
-direct_action (Define i r) = true
-direct_action (WrapObject ty q e) = true
-direct_action (UnwrapObject e) = true
-direct_action (AssertSpec e) = true
-direct_action (FreeObject e) = true
-direct_action (SpawnThread k es) = true
-direct_action (Atomic ls body) = false
-
-abbrev pub direct_item : List Remaining → Bool
-direct_item [] = true
-direct_item (Run (Do line x) ∷ code) = direct_action x
-direct_item (Run (If' line in_ghost e m a n b) ∷ code) = true
-direct_item (Run (While' line invs e m row) ∷ code) = true
-direct_item (Run (DoWhile' line invs m row tested e) ∷ code) = true
-direct_item (Run (Unwrapping' line ty q e m row) ∷ code) = true
-direct_item (Run (Call line to c k es) ∷ code) = true
-direct_item (Run (Return line e) ∷ code) = true
-direct_item (Test line e s ∷ code) = true
-direct_item (WrapAgain line ty o ∷ code) = true
-direct_item (Receive line place c ∷ code) = true
-
 -- the same, but for the line: that of the statement inside the block
 abbrev pub LeadsIn : Program → Comes PlainTurn → Turn → Type 0
 LeadsIn p c turn = (line : ℕ) × Leads p c (record turn { line = line })
