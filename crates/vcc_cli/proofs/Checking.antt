@@ -9,6 +9,8 @@ use Rattle.condition_meaning.specs.Promises.{ConditionsAreValid}
 use Rattle.c_types.specs.Typed.{IsProgramOf}
 use Rattle.tree_forms.proofs.FormLaw.{form_law}
 use Rattle.grain_law.proofs.Law.{safe_is_safe_in_fine_steps}
+use Rattle.erasure_runs.proofs.Back.{safe_is_safe_plain}
+use Rattle.apart_law.proofs.Texts.{texts_storing_once_are_apart}
 use Rattle.typed_conditions.specs.Laws.{SourcesAreAnnotated, SourcesAreSafe}
 use Rattle.cert_format.specs.Derivations.{Derivation}
 use Rattle.cert_format.specs.Text.{Proofs}
@@ -67,7 +69,13 @@ safe_source source p is annotated safe valid =
     let form = form_law source reads.items reads.end reads.text in
     let both = annotated reads.items reads.end form reads.typed p reads.tables_are in
     let at_once = safe reads.items reads.end form reads.typed p reads.tables_are (valid both.1 both.0) in
-    record { program = p; reads = is; safe = at_once; in_fine_steps = safe_is_safe_in_fine_steps p is.well_formed at_once }
+    record {
+      program = p;
+      reads = is;
+      safe = at_once;
+      in_fine_steps = safe_is_safe_in_fine_steps p is.well_formed at_once;
+      without_annotations = λ once. safe_is_safe_plain p is.well_formed (texts_storing_once_are_apart source reads.items reads.end reads.text once reads.typed p reads.tables_are) at_once;
+    }
 
 -- so is what a name holds
 pub holds_safe : (m : Map) (name : List ℕ) (p : Program) → HoldsProgram m name p → SourcesAreAnnotated → SourcesAreSafe → (IsLayered (language_of p) → IsFaithful (language_of p) → ConditionsAreValid p) → HoldsSafe m name

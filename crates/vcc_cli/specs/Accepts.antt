@@ -1,5 +1,5 @@
 -- When a source and a certificate are accepted, and what that means. From proof-carrying code (Necula 1997): who receives a program with a certificate checks the one by the other.
-use Rattle.std.specs.Prelude.{◌≡◌, ℕ, ◌≤◌, List, length, Option, Some}
+use Rattle.std.specs.Prelude.{◌≡◌, ℕ, ◌≤◌, List, length, Option, Some, IsTrue}
 use Rattle.generated_source.specs.Sources.{generated}
 use Rattle.c_syntax.specs.declared.token.Span.{Span}
 use Rattle.c_syntax.specs.Items.{Item}
@@ -9,6 +9,9 @@ use Rattle.c_types.specs.Typed.{IsProgramOf}
 use Rattle.method.specs.declared.program.Program.{Program}
 use Rattle.method.specs.Machine.{Safe}
 use Rattle.grain_law.specs.FineSteps.{SafeInFineSteps}
+use Rattle.object_types.specs.Sets.{every}
+use Rattle.apart_law.specs.Premises.{item_stores_once}
+use Rattle.plain_machine.specs.SafePlain.{SafePlain}
 use Rattle.conditions.specs.Conditions.{conditions}
 use Rattle.cert_format.specs.Text.{IsCertText, Proofs}
 use Rattle.condition_meaning.specs.Languages.{language_of}
@@ -51,11 +54,13 @@ pub record IsCheckOf (m : Map) (words : List (List ℕ)) (source cert : List ℕ
 
 -- the bytes read as a program that is safe: in every interleaving, from every good heap that meets main's precondition, no step faults, no claimed object is opened, and each step keeps the invariants
 -- Its steps are whole statements. It is safe in fine steps too, where other threads also act between two reads of one statement, and between a read and the use of its value.
+-- Nor does a step fault of the program that a C compiler sees, without its annotations, where each atomic block holds at most one assignment of code.
 pub record IsSafeSource (source : List ℕ) : Type 0 where
   pub program : Program
   pub reads : IsProgramOf source program
   pub safe : Safe program
   pub in_fine_steps : SafeInFineSteps program
+  pub without_annotations : IsTrue (every item_stores_once reads.reads.items) → SafePlain program
 
 -- the name holds a source that is safe
 pub record HoldsSafe (m : Map) (name : List ℕ) : Type 0 where

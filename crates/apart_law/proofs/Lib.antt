@@ -1,0 +1,11 @@
+pub mod ApartTests
+pub mod ApartBridge
+pub mod ApartRows
+pub mod ApartCode
+pub mod ApartGhosts
+pub mod ApartStores
+pub mod ApartBodies
+pub mod Apart
+pub mod AnyPart
+pub mod TypeRows
+pub mod Texts

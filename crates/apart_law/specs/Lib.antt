@@ -1,0 +1,4 @@
+pub mod Premises
+pub mod Law
+pub mod Rows
+pub mod Refuted

@@ -1,0 +1,14 @@
+pub mod Reached
+pub mod SameSteps
+pub mod Numbers
+pub mod NewThreads
+pub mod AbsentOwners
+pub mod StateSteps
+pub mod Plainly
+pub mod SilentSizes
+pub mod SilentFits
+pub mod SilentEnds
+pub mod SilentRuns
+pub mod Awake
+pub mod FullTurns
+pub mod Back
