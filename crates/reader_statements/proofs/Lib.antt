@@ -7,3 +7,4 @@ pub mod Picks
 pub mod Alike
 pub mod Forms
 pub mod Bodies
+pub mod Openings

@@ -1,5 +1,5 @@
 -- The statements' rows, one by one, as the reader goes through them.
-use Rattle.std.specs.Prelude.{ℕ, suc, max, ◌-◌, Bool, false, ◌&&◌, ◌==◌, List, [], ◌∷◌, Option, Ok}
+use Rattle.std.specs.Prelude.{ℕ, suc, max, ◌-◌, Bool, false, ◌&&◌, ◌==◌, List, [], ◌∷◌, Ok}
 use Rattle.ebnf.specs.Rules.{below, nothing, by_value, by_next, many, form, pick}
 use Rattle.ebnf.specs.Derives.{next}
 use Rattle.ebnf.specs.Reading.{Out, on, enter}
@@ -78,16 +78,6 @@ module _ {A : Type 0} (wrap : Stm → A) where
   -- what stands behind the body of a `do`
   abbrev pub do_end : P (List Inv × Stm → Span → A)
   do_end = word (key k.While) ▷ inside code ▷ word (sign s.Semicolon) ▷ nothing (λ c x q b p. wrap (st.Do p b.0 b.1 q x))
-
-  -- what stands behind the second `;` of a `for`, behind the first, and behind the word
-  abbrev pub for_end : P (Span → Exp → Span → Option Assignment → Span → Span → A)
-  for_end = optional assigned_part ▷ word (sign s.Close) ▷ loop_body ▷ nothing (λ b c z m y n x o p. wrap (st.For p x y z b.0 b.1))
-
-  abbrev pub for_test : P (Span → Option Assignment → Span → Span → A)
-  for_test = code ▷ word (sign s.Semicolon) ▷ for_end
-
-  abbrev pub for_tail : P (Span → A)
-  for_tail = word (sign s.Open) ▷ optional assigned_part ▷ word (sign s.Semicolon) ▷ for_test
 
   abbrev pub for_loop : R A
   for_loop = form (word (key k.For) ▷ word (sign s.Open) ▷ optional (below g.Assigned (λ x. x)) ▷ word (sign s.Semicolon) ▷ code ▷ word (sign s.Semicolon) ▷ optional (below g.Assigned (λ x. x)) ▷ word (sign s.Close) ▷ loop_body

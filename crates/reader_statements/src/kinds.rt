@@ -1,9 +1,8 @@
 //! Kinds of statements.
 
-ghost use Rattle.std.specs.Prelude.{◌≡◌, ◌≢◌, ◌==◌, true, false, ℕ, MatchOption};
+ghost use Rattle.std.specs.Prelude.{◌≡◌, ◌≢◌, true, false, ℕ, MatchOption};
 ghost use Rattle.ebnf.specs.Sets.{has};
 ghost use Rattle.ebnf.specs.Derives.{next};
-ghost use Rattle.c_syntax.specs.declared.token.Keyword.TheVariants as keywords;
 ghost use Rattle.c_syntax.specs.Classes as classes;
 ghost use Rattle.c_syntax.specs.Lexing.{lexeme};
 ghost use Rattle.c_syntax.specs.Grammar as g;
@@ -14,10 +13,10 @@ ghost use Rattle.reader_statements.specs.declared.kinds.Annotation.{Annotation};
 ghost use Rattle.reader_statements.specs.Rows as rows;
 
 use c_syntax::token::{Keyword, Sign, Token, TokenKind};
-use reader_expressions::tokens::{next_is, next_is_key};
+use reader_expressions::tokens::next_is;
 
 /// A kind of statement that doesn't begin with `_(`.
-#[derive(Clone, Copy, Debug, PartialEq, Eq)]
+#[derive(Clone, Copy)]
 pub enum Kind {
     Block,
     Skip,
@@ -101,13 +100,6 @@ pub fn begins_statement<'a>(tokens: &'a [Token<'a>]) -> bool
     }
 }
 
-/// Whether an `else` stands here: it belongs to the `if` that ends here.
-pub fn begins_else<'a>(tokens: &'a [Token<'a>]) -> bool
-    ensures { result ≡ (next language (lexemes tokens.now) == classes.key keywords.Else) }
-{
-    next_is_key(Keyword::Else, tokens)
-}
-
 /// How high what stands in a statement is at least.
 pub fn least(kind: Kind) -> u32
     ensures { result ≡ rows.kind_low kind }
@@ -120,7 +112,7 @@ pub fn least(kind: Kind) -> u32
 }
 
 /// A form behind `_(` that is a statement.
-#[derive(Clone, Copy, Debug, PartialEq, Eq)]
+#[derive(Clone, Copy)]
 pub enum Annotation {
     Assert,
     Ghost,

@@ -3,6 +3,7 @@
 
 pub mod annotations;
 pub mod blocks;
+pub mod fronts;
 pub mod kinds;
 pub mod loops;
 pub mod simple;

@@ -1,4 +1,4 @@
-//! Parts of loops that hold no statement.
+//! Parts of loops that hold no statement, and what stands behind a body.
 
 ghost use Rattle.std.specs.Prelude.{◌≡◌, ◌≤◌, ◌<◌, ◌+◌, true, IfOk, IfErr, Err};
 ghost use Rattle.std.specs.Option.{option_map};
@@ -9,16 +9,19 @@ ghost use Rattle.c_syntax.specs.Grammar as g;
 ghost use Rattle.c_syntax.specs.Language.{language};
 ghost use Rattle.c_syntax.specs.Views as views;
 ghost use Rattle.reader_expressions.specs.Reading.{Gives, lexemes, part, rule_at, extended};
+ghost use Rattle.c_syntax.specs.Views.{stm};
+ghost use Rattle.reader_statements.specs.Fronts.{loop_end};
 ghost use Rattle.reader_statements.specs.Loops.{invariants as invariants_of};
 ghost use Rattle.reader_statements.specs.Rows as rows;
 ghost use Rattle.reader_statements.specs.Views.{body, do_end as end_of};
 ghost use Rattle.reader_statements.specs.declared.blocks.Body.{Body};
+ghost use Rattle.reader_statements.specs.declared.blocks.LoopFront.TheVariants as fronts;
 
-use crate::blocks::DoEnd;
+use crate::blocks::{Body, LoopFront};
 use crate::simple::inside;
-use c_syntax::expressions::Assignment;
-use c_syntax::statements::Invariant;
-use c_syntax::token::{Keyword, Sign, Token};
+use c_syntax::expressions::{Assignment, Expr};
+use c_syntax::statements::{Invariant, Stmt};
+use c_syntax::token::{Keyword, Sign, Span, Token};
 use reader_annotations::annotations::invariant_tail;
 use reader_assignments::assignments::assigned;
 use reader_assignments::ends::ended;
@@ -28,10 +31,11 @@ use reader_expressions::tokens::{
     is_sign, next_is, next_is_key, next_is_name, next_is_number, take, take_key,
 };
 use std::alloc::Global;
+use tree_building::pair_with;
 
-/// What stands behind the body of a `do`.
+/// What stands behind the body of a `do`: the place of the word `while`, and the condition.
 #[tactic(auto, using(reader_assignments::proofs::Parts::rows))]
-pub fn do_end<'a>(alloc: Global, room: u32, tokens: &'a [Token<'a>]) -> Reading<'a, DoEnd>
+fn do_end<'a>(alloc: Global, room: u32, tokens: &'a [Token<'a>]) -> Reading<'a, (Span, Expr)>
     requires room { room < 1000 }
     ensures gives { Gives end_of result (part room (rows.do_end (λ x. x)) (lexemes tokens.now)) }
     ensures low { IfOk result (λ x. x.height ≤ room) }
@@ -41,13 +45,71 @@ pub fn do_end<'a>(alloc: Global, room: u32, tokens: &'a [Token<'a>]) -> Reading<
     let end = ended(Sign::Semicolon, condition)?;
     let (condition, _) = end.value;
     Ok(Parsed {
-        value: DoEnd {
-            span: word.value,
-            condition,
-        },
+        value: (word.value, condition),
         height: end.height,
         rest: end.rest,
     })
+}
+
+/// `do` with its body, up to its end.
+fn do_loop<'a>(
+    alloc: Global,
+    room: u32,
+    span: Span,
+    height: u32,
+    found: Parsed<'a, Body>,
+) -> Reading<'a, Stmt>
+    requires room { room < 1000 }
+    requires high { height ≤ room + 1 }
+    requires low { found.height ≤ room }
+    ensures gives { Gives stm result (loop_end room (fronts.Do span) height (body found.entry.value) found.entry.height (lexemes found.entry.rest.now)) }
+    ensures low { IfOk result (λ x. x.height ≤ room + 1) }
+{
+    let (held, end) = pair_with(found.value, do_end(alloc, room, found.rest))?;
+    let (place, condition) = end.value;
+    let whole = height.max(found.height.max(end.height) + 1);
+    Ok(Parsed {
+        value: Stmt::Do(span, held.invariants, held.inner, place, condition),
+        height: whole,
+        rest: end.rest,
+    })
+}
+
+/// A loop with this front, which is so high, and this body, up to its end.
+pub fn with_body<'a>(
+    alloc: Global,
+    room: u32,
+    front: LoopFront,
+    height: u32,
+    found: Parsed<'a, Body>,
+) -> Reading<'a, Stmt>
+    requires room { room < 1000 }
+    requires high { height ≤ room + 1 }
+    requires low { found.height ≤ room }
+    ensures gives { Gives stm result (loop_end room front height (body found.entry.value) found.entry.height (lexemes found.entry.rest.now)) }
+    ensures low { IfOk result (λ x. x.height ≤ room + 1) }
+{
+    let whole = height.max(found.height + 1);
+    match front {
+        LoopFront::While(span, condition) => Ok(Parsed {
+            value: Stmt::While(span, condition, found.value.invariants, found.value.inner),
+            height: whole,
+            rest: found.rest,
+        }),
+        LoopFront::Do(span) => do_loop(alloc, room, span, height, found),
+        LoopFront::For(span, first, condition, change) => Ok(Parsed {
+            value: Stmt::For(
+                span,
+                first,
+                condition,
+                change,
+                found.value.invariants,
+                found.value.inner,
+            ),
+            height: whole,
+            rest: found.rest,
+        }),
+    }
 }
 
 /// Whether an assignment of a `for` begins with the next token.
