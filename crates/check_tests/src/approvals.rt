@@ -176,16 +176,8 @@ const COMPARED: &[(&str, &str)] = &[
 ];
 
 #[test]
-fn approvals(rt: HostRuntime) {
+fn tables(rt: HostRuntime) {
     hold(&rt, rt.alloc(), "", APPROVALS);
-}
-
-#[test]
-fn exact_sets(rt: HostRuntime) {
     hold(&rt, rt.alloc(), "", EXACT_SETS);
-}
-
-#[test]
-fn compared(rt: HostRuntime) {
     hold(&rt, rt.alloc(), "", COMPARED);
 }

@@ -523,21 +523,9 @@ fn hold(rt: &impl Abort, alloc: Global, table: Table) {
 }
 
 #[test]
-fn heaps(rt: HostRuntime) {
+fn tables(rt: HostRuntime) {
     hold(&rt, rt.alloc(), HEAPS);
-}
-
-#[test]
-fn facts(rt: HostRuntime) {
     hold(&rt, rt.alloc(), FACTS);
-}
-
-#[test]
-fn checks(rt: HostRuntime) {
     hold(&rt, rt.alloc(), CHECKS);
-}
-
-#[test]
-fn words(rt: HostRuntime) {
     hold(&rt, rt.alloc(), WORDS);
 }

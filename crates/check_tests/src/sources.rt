@@ -809,56 +809,16 @@ fn counts_of_tokens(rt: HostRuntime) {
 }
 
 #[test]
-fn structs(rt: HostRuntime) {
+fn parts(rt: HostRuntime) {
     hold(&rt, rt.alloc(), "", STRUCTS);
-}
-
-#[test]
-fn functions(rt: HostRuntime) {
     hold(&rt, rt.alloc(), "", FUNCTIONS);
-}
-
-#[test]
-fn declarations(rt: HostRuntime) {
     hold(&rt, rt.alloc(), "", DECLARATIONS);
-}
-
-#[test]
-fn assignments(rt: HostRuntime) {
     hold(&rt, rt.alloc(), "", ASSIGNMENTS);
-}
-
-#[test]
-fn calls(rt: HostRuntime) {
     hold(&rt, rt.alloc(), "", CALLS);
-}
-
-#[test]
-fn branches(rt: HostRuntime) {
     hold(&rt, rt.alloc(), "", BRANCHES);
-}
-
-#[test]
-fn annotations(rt: HostRuntime) {
     hold(&rt, rt.alloc(), "", ANNOTATIONS);
-}
-
-#[test]
-fn ghosts(rt: HostRuntime) {
     hold(&rt, rt.alloc(), "", GHOSTS);
-}
-
-#[test]
-fn expressions(rt: HostRuntime) {
     hold(&rt, rt.alloc(), "", EXPRESSIONS);
-}
-
-#[test]
-fn specs(rt: HostRuntime) {
     hold(&rt, rt.alloc(), "", SPECS);
-}
-
-#[test]
-fn tokens(rt: HostRuntime) {
     hold(&rt, rt.alloc(), "", TOKENS);
 }

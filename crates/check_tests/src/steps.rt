@@ -532,46 +532,14 @@ fn hold(rt: &impl Abort, alloc: Global, table: &[Step<'_>]) {
 }
 
 #[test]
-fn connectives(rt: HostRuntime) {
+fn rules(rt: HostRuntime) {
     hold(&rt, rt.alloc(), CONNECTIVES);
-}
-
-#[test]
-fn equalities(rt: HostRuntime) {
     hold(&rt, rt.alloc(), EQUALITIES);
-}
-
-#[test]
-fn sums(rt: HostRuntime) {
     hold(&rt, rt.alloc(), SUMS);
-}
-
-#[test]
-fn forms(rt: HostRuntime) {
     hold(&rt, rt.alloc(), FORMS);
-}
-
-#[test]
-fn places(rt: HostRuntime) {
     hold(&rt, rt.alloc(), PLACES);
-}
-
-#[test]
-fn numbers(rt: HostRuntime) {
     hold(&rt, rt.alloc(), NUMBERS);
-}
-
-#[test]
-fn cuts(rt: HostRuntime) {
     hold(&rt, rt.alloc(), CUTS);
-}
-
-#[test]
-fn maps(rt: HostRuntime) {
     hold(&rt, rt.alloc(), MAPS);
-}
-
-#[test]
-fn axioms(rt: HostRuntime) {
     hold(&rt, rt.alloc(), AXIOMS);
 }

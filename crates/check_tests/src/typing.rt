@@ -763,52 +763,16 @@ const ORDER: &[(&str, &str)] = &[
 ];
 
 #[test]
-fn names(rt: HostRuntime) {
+fn rules(rt: HostRuntime) {
     hold(&rt, rt.alloc(), DECLARATIONS, NAMES);
-}
-
-#[test]
-fn values(rt: HostRuntime) {
     hold(&rt, rt.alloc(), DECLARATIONS, VALUES);
-}
-
-#[test]
-fn calls(rt: HostRuntime) {
     hold(&rt, rt.alloc(), DECLARATIONS, CALLS);
-}
-
-#[test]
-fn ghosts(rt: HostRuntime) {
     hold(&rt, rt.alloc(), DECLARATIONS, GHOSTS);
-}
-
-#[test]
-fn atomic(rt: HostRuntime) {
     hold(&rt, rt.alloc(), DECLARATIONS, ATOMIC);
-}
-
-#[test]
-fn ownership(rt: HostRuntime) {
     hold(&rt, rt.alloc(), DECLARATIONS, OWNERSHIP);
-}
-
-#[test]
-fn invariants(rt: HostRuntime) {
     hold(&rt, rt.alloc(), DECLARATIONS, INVARIANTS);
-}
-
-#[test]
-fn words(rt: HostRuntime) {
     hold(&rt, rt.alloc(), DECLARATIONS, WORDS);
-}
-
-#[test]
-fn functions(rt: HostRuntime) {
     hold(&rt, rt.alloc(), DECLARATIONS, FUNCTIONS);
-}
-
-#[test]
-fn order(rt: HostRuntime) {
     hold(&rt, rt.alloc(), DECLARATIONS, ORDER);
 }
 

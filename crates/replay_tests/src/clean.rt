@@ -98,8 +98,10 @@ clean 6 steps\n",
 ];
 
 #[test]
-fn steps(rt: HostRuntime) {
+fn runs(rt: HostRuntime) {
     hold(&rt, rt.alloc(), STEPS);
+    hold(&rt, rt.alloc(), RECORDS);
+    hold(&rt, rt.alloc(), BLOCKS);
 }
 
 /// What is left in the heap.
@@ -224,11 +226,6 @@ clean 6 steps\n\
     ),
 ];
 
-#[test]
-fn records(rt: HostRuntime) {
-    hold(&rt, rt.alloc(), RECORDS);
-}
-
 /// An approved field is written with its owner.
 const APPROVED: &str = "struct F { volatile int a; _(invariant \\approves(\\this->\\owner, a)) };\n\
 struct G { _(ghost volatile int s) struct F *p; _(invariant \\mine(p)) _(invariant p->a == s) };\n\
@@ -290,8 +287,3 @@ s 1\ns 1\nend\n",
         1,
     ),
 ];
-
-#[test]
-fn blocks(rt: HostRuntime) {
-    hold(&rt, rt.alloc(), BLOCKS);
-}

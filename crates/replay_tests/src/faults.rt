@@ -91,8 +91,12 @@ p->a += e; } }",
 ];
 
 #[test]
-fn expressions(rt: HostRuntime) {
+fn checks(rt: HostRuntime) {
     hold(&rt, rt.alloc(), EXPRESSIONS);
+    hold(&rt, rt.alloc(), WRITES);
+    hold(&rt, rt.alloc(), OWNERSHIP);
+    hold(&rt, rt.alloc(), CLAIMS);
+    hold(&rt, rt.alloc(), CALLS);
 }
 
 /// Checks of what is written, made and freed.
@@ -169,11 +173,6 @@ _(atomic p) { p->a = 1; } } }",
         1,
     ),
 ];
-
-#[test]
-fn writes(rt: HostRuntime) {
-    hold(&rt, rt.alloc(), WRITES);
-}
 
 /// Checks of what is owned, wrapped and unwrapped.
 const OWNERSHIP: &[Row<'static>] = &[
@@ -268,11 +267,6 @@ _(atomic p, p->q) { } } }",
     ),
 ];
 
-#[test]
-fn ownership(rt: HostRuntime) {
-    hold(&rt, rt.alloc(), OWNERSHIP);
-}
-
 /// Checks of claims.
 const CLAIMS: &[Row<'static>] = &[
     (
@@ -359,11 +353,6 @@ _(atomic p, o) { p->n = -1; } } }",
         1,
     ),
 ];
-
-#[test]
-fn claims(rt: HostRuntime) {
-    hold(&rt, rt.alloc(), CLAIMS);
-}
 
 /// Checks of calls, returns, loops and starts of threads.
 const CALLS: &[Row<'static>] = &[
@@ -471,8 +460,3 @@ vcc_spawn(w, 2); }",
         1,
     ),
 ];
-
-#[test]
-fn calls(rt: HostRuntime) {
-    hold(&rt, rt.alloc(), CALLS);
-}

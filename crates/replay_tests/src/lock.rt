@@ -78,8 +78,9 @@ clean 45 steps\n\
 4.1 closed t1 count 2 owns {3.1} locked=0 protected_obj=3.1\n";
 
 #[test]
-fn whole(rt: HostRuntime) {
+fn schedules(rt: HostRuntime) {
     hold(&rt, rt.alloc(), &[(LOCK, LOCK_EVENTS, STEPS, 0)]);
+    hold(&rt, rt.alloc(), ROWS);
 }
 
 /// Main alone, and once more when it has ended.
@@ -110,11 +111,6 @@ const ROWS: &[Row<'static>] = &[
         1,
     ),
 ];
-
-#[test]
-fn parts(rt: HostRuntime) {
-    hold(&rt, rt.alloc(), ROWS);
-}
 
 /// Whichever put fails, a front of the text is written, and the status says so.
 #[test]

@@ -154,8 +154,9 @@ const FORMS: &[Row<'static>] = &[
 ];
 
 #[test]
-fn forms(rt: HostRuntime) {
+fn schedules(rt: HostRuntime) {
     hold(&rt, rt.alloc(), FORMS);
+    hold(&rt, rt.alloc(), ORDER);
 }
 
 /// What comes first is said: the source's tokens, its syntax, its types; the schedule's form; main's arguments.
@@ -176,11 +177,6 @@ const ORDER: &[Row<'static>] = &[
         3,
     ),
 ];
-
-#[test]
-fn order(rt: HostRuntime) {
-    hold(&rt, rt.alloc(), ORDER);
-}
 
 /// What is held, with the text and the status of a run where a name is missing.
 const MISSING: &[(Held<'static>, &str, u8)] = &[

@@ -81,8 +81,10 @@ _(requires x == 1) { }",
 ];
 
 #[test]
-fn starts(rt: HostRuntime) {
+fn tables(rt: HostRuntime) {
     hold(&rt, rt.alloc(), STARTS);
+    hold(&rt, rt.alloc(), IDLE);
+    hold(&rt, rt.alloc(), WIDE);
 }
 
 /// A struct with fields of several types.
@@ -184,11 +186,6 @@ const IDLE: &[Row<'static>] = &[
     ),
 ];
 
-#[test]
-fn idle(rt: HostRuntime) {
-    hold(&rt, rt.alloc(), IDLE);
-}
-
 /// Values that leave 128 bits, behind the steps before them.
 const WIDE: &[Row<'static>] = &[
     (
@@ -226,8 +223,3 @@ limit: Wide 21267647932558653966460912964485513216 4611686018427387904\n",
         5,
     ),
 ];
-
-#[test]
-fn wide(rt: HostRuntime) {
-    hold(&rt, rt.alloc(), WIDE);
-}
