@@ -7,7 +7,7 @@ use Rattle.terms.specs.Formula.{Formula}
 use Rattle.conditions.specs.Annotations as annotation
 use Rattle.conditions.specs.Code as spec
 use Rattle.condition_formulas.specs.Standing.{StandsAs, StandAll, Each, Later}
-use Rattle.condition_annotations.proofs.Done.{Done, done_first, done_next, done_last}
+use Rattle.annotation_scenes.proofs.Done.{Done, done_first, done_next, done_last}
 use Rattle.condition_code.specs.declared.state.Entry.{Entry}
 use Rattle.condition_code.specs.declared.state.DeferredObject.{DeferredObject}
 use Rattle.condition_code.specs.declared.state.DeferredClaim.{DeferredClaim}

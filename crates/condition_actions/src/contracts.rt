@@ -5,9 +5,9 @@ ghost use Rattle.conditions.specs.Annotations as annotation;
 ghost use Rattle.conditions.specs.Code as spec;
 ghost use Rattle.conditions.specs.Actions as actions;
 ghost use Rattle.condition_formulas.specs.Standing.{StandAll, Later};
-ghost use Rattle.condition_annotations.specs.Scenes.{IsScene};
+ghost use Rattle.annotation_scenes.specs.Scenes.{IsScene};
 
-use condition_annotations::scene::Scene;
+use annotation_scenes::scene::Scene;
 use condition_annotations::translate::terms_of;
 use condition_annotations::truth::formula;
 use method::program::{Clause, Program, Spec};

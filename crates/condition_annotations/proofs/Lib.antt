@@ -1,4 +1,2 @@
-pub mod Scenes
-pub mod Done
 pub mod Mapped
 pub mod Rows

@@ -11,8 +11,8 @@ use Rattle.condition_formulas.specs.declared.symbolic.Symbolic.{Symbolic}
 use Rattle.condition_formulas.specs.Standing.{StandsAs, StandAll, Later}
 use Rattle.condition_formulas.specs.Symbolics.{AreSymbolic, EachSymbolic}
 use Rattle.condition_formulas.proofs.Rows.{at, as_long}
-use Rattle.condition_annotations.proofs.Done.{Done, done_first, done_next, done_last}
-use Rattle.condition_annotations.proofs.Scenes.{as_many}
+use Rattle.annotation_scenes.proofs.Done.{Done, done_first, done_next, done_last}
+use Rattle.annotation_scenes.proofs.Scenes.{as_many}
 
 -- of each element of a list a formula, where a fact is known
 pub record Mapped {X S : Type 0} (Known : S → Type 0) (by : S → X → Formula) (old new : List Term) (xs : List X) (made : List ℕ) (i : ℕ) : Type 0 where

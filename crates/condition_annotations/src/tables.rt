@@ -7,10 +7,10 @@ ghost use Rattle.conditions.specs.Symbolic as symbolic;
 ghost use Rattle.conditions.specs.Annotations as spec;
 ghost use Rattle.condition_formulas.specs.Standing.{StandsAs, StandAll, Later};
 ghost use Rattle.condition_formulas.specs.Symbolics.{IsSymbolic};
-ghost use Rattle.condition_annotations.specs.Scenes.{IsScene};
+ghost use Rattle.annotation_scenes.specs.Scenes.{IsScene};
 ghost use Rattle.condition_annotations.specs.Rows.{hole_terms};
 
-use crate::scene::{Scene, hole_value};
+use annotation_scenes::scene::{Scene, hole_value};
 use condition_formulas::columns::{has_shape, lists};
 use condition_formulas::formulas::{falsehood, int, truth};
 use condition_formulas::symbolic::{Symbolic, term};

@@ -7,14 +7,16 @@ ghost use Rattle.conditions.specs.Symbolic as symbolic;
 ghost use Rattle.conditions.specs.Annotations as spec;
 ghost use Rattle.condition_formulas.specs.Standing.{StandsAs, StandAll, Later};
 ghost use Rattle.condition_formulas.specs.Symbolics.{IsSymbolic};
-ghost use Rattle.condition_annotations.specs.Scenes.{IsScene, IsFormal};
+ghost use Rattle.annotation_scenes.specs.Scenes.{IsScene, IsFormal};
 ghost use Rattle.condition_annotations.specs.Rows.{each_test, each_term};
 
-use crate::formal::{FormalScene, formal_scene};
-use crate::quantifiers::{body_of_all, body_of_only, body_of_some, quantifier, subject_of};
-use crate::scene::{Scene, bound_ref, variable};
 use crate::tables::{each_listed, earlier_locals, has, literal, truth_value};
 use crate::words;
+use annotation_scenes::formal::{FormalScene, formal_scene};
+use annotation_scenes::quantifiers::{
+    body_of_all, body_of_only, body_of_some, quantifier, subject_of,
+};
+use annotation_scenes::scene::{Scene, bound_ref, variable};
 use condition_formulas::formulas::{not, null};
 use condition_formulas::lists::{all_of, joined};
 use condition_formulas::symbolic::{Symbolic, term, test};

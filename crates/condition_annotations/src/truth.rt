@@ -3,10 +3,10 @@
 ghost use Rattle.std.specs.Prelude.{IfOk};
 ghost use Rattle.conditions.specs.Annotations as spec;
 ghost use Rattle.condition_formulas.specs.Standing.{StandsAs, Later};
-ghost use Rattle.condition_annotations.specs.Scenes.{IsScene};
+ghost use Rattle.annotation_scenes.specs.Scenes.{IsScene};
 
-use crate::scene::Scene;
 use crate::translate::translate;
+use annotation_scenes::scene::Scene;
 use condition_formulas::symbolic::test;
 use method::program::{Program, Spec};
 use std::alloc::{AllocError, Global};

@@ -9,9 +9,9 @@ ghost use Rattle.conditions.specs.Symbolic as symbolic;
 ghost use Rattle.conditions.specs.Annotations as spec;
 ghost use Rattle.condition_formulas.specs.Standing.{StandsAs, StandAll, Later};
 ghost use Rattle.condition_formulas.specs.Symbolics.{IsSymbolic};
-ghost use Rattle.condition_annotations.specs.Scenes.{IsScene};
+ghost use Rattle.annotation_scenes.specs.Scenes.{IsScene};
 
-use crate::scene::Scene;
+use annotation_scenes::scene::Scene;
 use condition_formulas::columns::{closed, count, field, lists, mutable, owner, owns, wrapped};
 use condition_formulas::formulas::{and, eq, imp, nat, not, or};
 use condition_formulas::symbolic::{

@@ -14,7 +14,7 @@ use Rattle.condition_formulas.specs.Standing.{StandsAs, StandAll, Later}
 use Rattle.condition_formulas.specs.Symbolics.{IsSymbolic, AreSymbolic, EachSymbolic}
 use Rattle.condition_formulas.proofs.Rows.{same_ids, then_one, all_later}
 use Rattle.condition_formulas.proofs.Symbolics.{are_later, symbolic_later}
-use Rattle.condition_annotations.proofs.Scenes.{as_many}
+use Rattle.annotation_scenes.proofs.Scenes.{as_many}
 use Rattle.condition_code.specs.declared.state.State.{State as CodeState}
 use Rattle.condition_code.specs.States.{IsState}
 use Rattle.condition_code.proofs.States.{state_later}

@@ -7,7 +7,7 @@ use Rattle.terms.specs.Formula.{Formula}
 use Rattle.conditions.specs.Annotations as annotation
 use Rattle.condition_formulas.specs.Standing.{StandsAs, StandAll, Each, Later}
 use Rattle.condition_formulas.proofs.Rows.{at, as_long, both, same_ids, all_later}
-use Rattle.condition_annotations.proofs.Done.{Done, done_first, done_next, done_last}
+use Rattle.annotation_scenes.proofs.Done.{Done, done_first, done_next, done_last}
 use Rattle.condition_code.specs.declared.state.Entry.{Entry}
 use Rattle.condition_code.specs.States.{IsEntry, EachEntry, AreEntries}
 

@@ -18,7 +18,7 @@ use Rattle.condition_formulas.specs.declared.symbolic.Symbolic.{Symbolic}
 use Rattle.condition_formulas.specs.Standing.{StandsAs, StandAll, Later}
 use Rattle.condition_formulas.specs.Symbolics.{IsSymbolic, AreSymbolic, EachSymbolic}
 use Rattle.condition_formulas.proofs.Rows.{none, same_ids, as_long}
-use Rattle.condition_annotations.proofs.Done.{Done, done_first, done_last}
+use Rattle.annotation_scenes.proofs.Done.{Done, done_first, done_last}
 use Rattle.condition_code.specs.declared.state.DeferredClaim.{DeferredClaim}
 use Rattle.condition_code.specs.declared.state.DeferredObject.{DeferredObject}
 use Rattle.condition_code.specs.declared.state.Entry.{Entry}

@@ -11,7 +11,7 @@ ghost use Rattle.condition_formulas.specs.Standing.{StandsAs, StandAll, Later};
 ghost use Rattle.condition_code.specs.States.{AreEntries, IsEntry};
 ghost use Rattle.condition_claims.specs.Pieces.{with_conjunct, with_count, with_object};
 
-use condition_annotations::quantifiers::terms;
+use annotation_scenes::quantifiers::terms;
 use condition_code::state::Entry;
 use condition_formulas::columns::{count, set, shape_column, status};
 use condition_formulas::formulas::{me, nat, node, null};

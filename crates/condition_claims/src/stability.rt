@@ -10,14 +10,14 @@ ghost use Rattle.conditions.specs.Paths as paths;
 ghost use Rattle.conditions.specs.Symbolic as symbolic;
 ghost use Rattle.condition_formulas.specs.Standing.{StandsAs, StandAll, Later};
 ghost use Rattle.condition_formulas.specs.Symbolics.{AreSymbolic};
-ghost use Rattle.condition_annotations.specs.Scenes.{IsScene};
+ghost use Rattle.annotation_scenes.specs.Scenes.{IsScene};
 ghost use Rattle.condition_claims.specs.Drafts.{Adds};
 ghost use Rattle.condition_claims.specs.Pieces.{site_facts};
 ghost use Rattle.condition_claims.specs.Settings.{IsSetting};
 
 use crate::admissible::{Setting, untouched};
 use crate::sites::site_state;
-use condition_annotations::scene::Scene;
+use annotation_scenes::scene::Scene;
 use condition_branches::facts::facts_since;
 use condition_code::walk::Walk;
 use condition_formulas::formulas::{heap, imp, me, nat, null};

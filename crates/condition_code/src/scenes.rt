@@ -6,11 +6,11 @@ ghost use Rattle.conditions.specs.Code as spec;
 ghost use Rattle.conditions.specs.Symbolic as symbolic;
 ghost use Rattle.condition_formulas.specs.Standing.{StandsAs, Later};
 ghost use Rattle.condition_formulas.specs.Symbolics.{IsSymbolic, AreSymbolic};
-ghost use Rattle.condition_annotations.specs.Scenes.{IsScene};
+ghost use Rattle.annotation_scenes.specs.Scenes.{IsScene};
 ghost use Rattle.condition_code.specs.States.{IsSpot, IsState};
 
 use crate::state::{Spot, State};
-use condition_annotations::scene::Scene;
+use annotation_scenes::scene::Scene;
 use condition_formulas::formulas::{me, nat, null};
 use condition_formulas::symbolic::Symbolic;
 use std::alloc::AllocError;

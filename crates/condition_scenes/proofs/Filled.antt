@@ -8,7 +8,7 @@ use Rattle.conditions.specs.Symbolic as symbolic
 use Rattle.condition_formulas.specs.declared.symbolic.Symbolic.{Symbolic}
 use Rattle.condition_formulas.specs.Standing.{Later}
 use Rattle.condition_formulas.specs.Symbolics.{IsSymbolic, AreSymbolic}
-use Rattle.condition_annotations.proofs.Done.{DoneValues, values_first, values_next, values_last}
+use Rattle.annotation_scenes.proofs.Done.{DoneValues, values_first, values_next, values_last}
 
 -- of each element of a list a value, where a fact is known
 pub record Filled {X S : Type 0} (Known : S → Type 0) (by : S → X → symbolic.Symbolic) (old new : List Term) (xs : List X) (made : List Symbolic) (i : ℕ) : Type 0 where

@@ -6,11 +6,11 @@ ghost use Rattle.conditions.specs.Symbolic as symbolic;
 ghost use Rattle.conditions.specs.Annotations as spec;
 ghost use Rattle.condition_formulas.specs.Standing.{StandsAs, Later};
 ghost use Rattle.condition_formulas.specs.Symbolics.{AreSymbolic};
-ghost use Rattle.condition_annotations.specs.Scenes.{IsScene};
+ghost use Rattle.annotation_scenes.specs.Scenes.{IsScene};
 ghost use Rattle.condition_code.specs.States.{IsEntry};
 ghost use Rattle.condition_scenes.specs.Conjuncts.{fillings};
 
-use condition_annotations::scene::{Scene, hole_value};
+use annotation_scenes::scene::{Scene, hole_value};
 use condition_annotations::truth::formula;
 use condition_code::state::Entry;
 use condition_formulas::formulas::{nat, null, truth};

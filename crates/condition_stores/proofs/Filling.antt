@@ -12,7 +12,7 @@ use Rattle.condition_formulas.specs.Standing.{StandsAs, StandAll, Later}
 use Rattle.condition_formulas.specs.Symbolics.{IsSymbolic, EachSymbolic, AreSymbolic}
 use Rattle.condition_formulas.proofs.Rows.{at, as_long}
 use Rattle.condition_formulas.proofs.Symbolics.{symbolic_later}
-use Rattle.condition_annotations.proofs.Scenes.{as_many}
+use Rattle.annotation_scenes.proofs.Scenes.{as_many}
 
 -- Members.
 

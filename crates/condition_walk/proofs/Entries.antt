@@ -22,8 +22,8 @@ use Rattle.condition_formulas.specs.Standing.{StandAll, Later}
 use Rattle.condition_formulas.specs.Symbolics.{IsSymbolic, AreSymbolic, EachSymbolic}
 use Rattle.condition_formulas.proofs.Rows.{both, all_later, same_ids}
 use Rattle.condition_formulas.proofs.Symbolics.{are_later, symbolic_later}
-use Rattle.condition_annotations.proofs.Scenes.{as_many}
-use Rattle.condition_annotations.proofs.Done.{Done, done_first, done_last, value_at, DoneValues, values_first, values_next, values_last}
+use Rattle.annotation_scenes.proofs.Scenes.{as_many}
+use Rattle.annotation_scenes.proofs.Done.{Done, done_first, done_last, value_at, DoneValues, values_first, values_next, values_last}
 use Rattle.condition_code.specs.declared.state.Spot.{Spot}
 use Rattle.condition_code.specs.declared.state.State.{State}
 use Rattle.condition_code.specs.declared.walk.Step.{Step}
@@ -33,8 +33,8 @@ use Rattle.condition_code.specs.States.{IsSpot, IsState, AreDeferred, AreDeferre
 use Rattle.condition_code.specs.Walks.{GoesTo}
 use Rattle.condition_code.proofs.Codes.{then_value}
 use Rattle.condition_code.proofs.States.{spot_later, no_values, same_values}
-use Rattle.condition_walk.specs.Forms.{all_stmts}
-use Rattle.condition_walk.proofs.Runs.{after_after, as_run, OnWay, way_starts, way_goes_on, way_ends, element}
+use Rattle.condition_control.specs.Forms.{all_stmts}
+use Rattle.condition_control.proofs.Runs.{after_after, as_run, OnWay, way_starts, way_goes_on, way_ends, element}
 
 -- Statements one after the other.
 

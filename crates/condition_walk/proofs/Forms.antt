@@ -21,8 +21,8 @@ use Rattle.condition_code.specs.States.{IsState}
 use Rattle.condition_code.specs.Walks.{GoesTo}
 use Rattle.statement_text.specs.Rows.{all_set, all_declare, one_returns}
 use Rattle.statement_text.proofs.Vectors.{first_row, second_row, return_row, if_declares, while_sets, while_declares, do_while_sets, do_while_declares}
-use Rattle.condition_walk.specs.Forms.{set_outside, loop_left, all_stmts, evaluated, branching, any_turn, turn_end, looping, do_end, do_looping, closing, opened}
-use Rattle.condition_walk.proofs.Runs.{after_after, as_run}
+use Rattle.condition_control.specs.Forms.{set_outside, loop_left, all_stmts, evaluated, branching, any_turn, turn_end, looping, do_end, do_looping, closing, opened}
+use Rattle.condition_control.proofs.Runs.{after_after, as_run}
 
 module _ (p : Program) (f : FunctionInfo) (a : Spot) where
   pub stmts_row : (n : Count) (row : s.Row_of-Stmt n) (st : State) → stmts p f a row st ≡ all_stmts p f a (s.items-the_row-Stmt n row) st

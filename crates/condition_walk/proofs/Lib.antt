@@ -1,5 +1,3 @@
-pub mod Runs
-pub mod Steps
 pub mod Forms
 pub mod Receiving
 pub mod Entries

@@ -17,8 +17,8 @@ use Rattle.condition_code.proofs.States.{state_later}
 use Rattle.condition_code.proofs.Walks.{branch_then}
 use Rattle.condition_branches.specs.declared.ways.Way.{Way}
 use Rattle.condition_branches.specs.Ways.{IsWay, EndsWay}
-use Rattle.condition_walk.specs.declared.forks.Fork.{Fork}
-use Rattle.condition_walk.specs.Receiving.{IsFork}
+use Rattle.condition_control.specs.declared.forks.Fork.{Fork}
+use Rattle.condition_control.specs.Forks.{IsFork}
 
 pub way_later : {old new : List Term} {c : Way} {x : Execution spec.State} → Later old new → IsWay old c x → IsWay new c x
 way_later later h = record { state = state_later later h.state; facts = all_later later h.facts }

@@ -1,16 +1,11 @@
--- Where a call's value goes, and what a test and new values come to, in code as nodes of a graph. Own.
+-- Where a call's value goes, and what new values come to, in code as nodes of a graph. Own.
 use Rattle.std.specs.Prelude.{List, Option, Some, None}
 use Rattle.terms.specs.declared.term.Term.{Term}
-use Rattle.conditions.specs.Formulas.{not'}
-use Rattle.conditions.specs.Symbolic.{test}
-use Rattle.conditions.specs.Code as spec
 use Rattle.conditions.specs.Actions as actions
-use Rattle.condition_formulas.specs.Standing.{StandsAs}
 use Rattle.condition_formulas.specs.Symbolics.{AreSymbolic}
 use Rattle.condition_code.specs.States.{IsState}
 use Rattle.condition_stores.specs.declared.place.Place.{Place}
 use Rattle.condition_stores.specs.Places.{IsPlace}
-use Rattle.condition_walk.specs.declared.forks.Fork.{Fork}
 use Rattle.condition_walk.specs.declared.entry.Arguments.{Arguments}
 
 -- a place, or none
@@ -22,12 +17,6 @@ SamePlaces ts (Some c) (Some q) = IsPlace ts c q
 
 pub record IsReceiving (ts : List Term) (c : Option Place) (q : Option actions.Place) : Type 0 where
   pub is : SamePlaces ts c q
-
--- a test of this value, and its denial, in this state
-pub record IsFork (ts : List Term) (c : Fork) (v : spec.ValueAndState) : Type 0 where
-  pub state_is : IsState ts c.state v.state
-  pub test_is : StandsAs ts c.test (test v.value)
-  pub fails_is : StandsAs ts c.fails (not' (test v.value))
 
 -- values, and the state where their constants are made
 pub record AreArguments (ts : List Term) (c : Arguments) (r : actions.ValuesAndState) : Type 0 where

@@ -12,14 +12,14 @@ ghost use Rattle.condition_formulas.specs.Standing.{StandsAs, StandAll};
 ghost use Rattle.condition_formulas.specs.Symbolics.{AreSymbolic};
 ghost use Rattle.condition_code.specs.States.{IsSpot, IsState, IsValueAndState};
 ghost use Rattle.condition_code.specs.Walks.{Ran};
-ghost use Rattle.condition_walk.specs.Forms.{called};
+ghost use Rattle.condition_control.specs.Forms.{called};
 ghost use Rattle.condition_walk.specs.Receiving.{IsReceiving};
 
-use crate::contracts::{all_writable, ensures_at, items_at, requires_at};
-use crate::interference::{frame_step, interference};
 use condition_code::expressions::all_symbolic;
 use condition_code::state::{Spot, State, ValueAndState, new_value};
 use condition_code::walk::Walk;
+use condition_control::contracts::{all_writable, ensures_at, items_at, requires_at};
+use condition_control::interference::{frame_step, interference};
 use condition_formulas::formulas::nat;
 use condition_formulas::symbolic::Symbolic;
 use condition_stores::place::{Place, left_side};

@@ -13,11 +13,11 @@ ghost use Rattle.condition_code.specs.States.{IsSpot, IsState};
 ghost use Rattle.condition_code.specs.Walks.{Ran};
 ghost use Rattle.condition_walk.specs.Receiving.{AreArguments};
 
-use crate::contracts::{items_at, requires_at};
-use crate::returns::body_end;
 use crate::statements::statements;
 use condition_code::state::{Spot, State, ValueAndState, new_heap, new_of};
 use condition_code::walk::Walk;
+use condition_control::contracts::{items_at, requires_at};
+use condition_control::returns::body_end;
 use condition_formulas::formulas::{nat, node, null};
 use condition_formulas::lists::joined;
 use condition_formulas::symbolic::{Symbolic, ranges, term};

@@ -2,12 +2,6 @@
 #![tactic(auto)]
 
 pub mod calls;
-pub mod contracts;
 pub mod entry;
-pub mod forks;
-pub mod interference;
-pub mod invariants;
 pub mod items;
-pub mod loops;
-pub mod returns;
 pub mod statements;

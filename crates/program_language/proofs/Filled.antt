@@ -8,7 +8,7 @@ use Rattle.condition_meaning.specs.Languages.{hole_constant, hole_constants}
 use Rattle.condition_formulas.specs.declared.symbolic.Symbolic.{Symbolic}
 use Rattle.condition_formulas.specs.Standing.{Later}
 use Rattle.condition_formulas.specs.Symbolics.{IsSymbolic, AreSymbolic}
-use Rattle.condition_annotations.proofs.Done.{DoneValues, values_first, values_next, values_last}
+use Rattle.annotation_scenes.proofs.Done.{DoneValues, values_first, values_next, values_last}
 
 -- those made so far
 pub record HolesUpTo (old new : List Term) (holes : List Sort) (made : List Symbolic) (i : ℕ) : Type 0 where

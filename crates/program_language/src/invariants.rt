@@ -3,10 +3,10 @@
 ghost use Rattle.std.specs.Prelude.{IfOk};
 ghost use Rattle.condition_meaning.specs.Languages as spec;
 ghost use Rattle.condition_formulas.specs.Standing.{StandsAs, StandAll, Later};
-ghost use Rattle.condition_annotations.specs.Scenes.{IsScene};
+ghost use Rattle.annotation_scenes.specs.Scenes.{IsScene};
 ghost use Rattle.program_language.specs.Tables.{struct_formulas};
 
-use condition_annotations::scene::Scene;
+use annotation_scenes::scene::Scene;
 use condition_annotations::translate::tests;
 use condition_code::scenes::inv_scene;
 use condition_formulas::formulas::{heap, reference};

@@ -3,12 +3,12 @@
 ghost use Rattle.std.specs.Prelude.{◌∷◌, [], OnOk};
 ghost use Rattle.conditions.specs.Annotations as annotation;
 ghost use Rattle.conditions.specs.Quantified as spec;
-ghost use Rattle.condition_annotations.specs.Scenes.{IsScene};
+ghost use Rattle.annotation_scenes.specs.Scenes.{IsScene};
 ghost use Rattle.quantified_formulas.specs.Bodies as bodies;
 ghost use Rattle.program_quantifiers.specs.Quantifiers.{Adds};
 
 use crate::quantifiers::Quantifiers;
-use condition_annotations::scene::Scene;
+use annotation_scenes::scene::Scene;
 use method::program::{Clause, DeclaredType, Program, Spec};
 use quantified_formulas::bodies::{bound_within, claims_only, exists, for_all};
 use std::alloc::{AllocError, Global};

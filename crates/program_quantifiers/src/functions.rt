@@ -2,7 +2,7 @@
 
 ghost use Rattle.std.specs.Prelude.{IfOk, OnOk};
 ghost use Rattle.conditions.specs.Quantified as spec;
-ghost use Rattle.condition_annotations.specs.Scenes.{IsScene};
+ghost use Rattle.annotation_scenes.specs.Scenes.{IsScene};
 ghost use Rattle.program_quantifiers.specs.Quantifiers.{Adds, AreQuantified};
 ghost use Rattle.program_quantifiers.specs.Programs.{functions_quantifiers, structs_quantifiers};
 
@@ -10,7 +10,7 @@ use crate::annotations::{add_annotations, add_clauses};
 use crate::quantifiers::Quantifiers;
 use crate::statements::add_statements;
 use crate::words::{function_words, struct_words};
-use condition_annotations::scene::Scene;
+use annotation_scenes::scene::Scene;
 use method::program::{FunctionInfo, Program, StructInfo};
 use std::alloc::{AllocError, Global};
 use term_graph::graph::Graph;

@@ -2,14 +2,14 @@
 
 ghost use Rattle.std.specs.Prelude.{◌∷◌, [], OnOk, flat_map, length};
 ghost use Rattle.conditions.specs.Quantified as spec;
-ghost use Rattle.condition_annotations.specs.Scenes.{IsScene};
+ghost use Rattle.annotation_scenes.specs.Scenes.{IsScene};
 ghost use Rattle.program_quantifiers.specs.Quantifiers.{Adds};
 ghost use Rattle.program_quantifiers.specs.Statements.{members_at, statements_quantifiers};
 
 use crate::annotations::{add_annotation, add_annotations};
 use crate::quantifiers::Quantifiers;
 use crate::tables::has_fixed_owns;
-use condition_annotations::scene::Scene;
+use annotation_scenes::scene::Scene;
 use method::program::{Action, Expr, FunctionInfo, Inner, Program, Simple, Stmt};
 use quantified_formulas::members::{listed_objects, members};
 use std::alloc::{AllocError, Global};

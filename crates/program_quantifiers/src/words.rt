@@ -6,11 +6,11 @@ ghost use Rattle.conditions.specs.Formulas.{null};
 ghost use Rattle.conditions.specs.Quantified as spec;
 ghost use Rattle.condition_formulas.specs.Standing.{StandsAs, Later};
 ghost use Rattle.condition_formulas.specs.Symbolics.{IsSymbolic, AreSymbolic};
-ghost use Rattle.condition_annotations.specs.Scenes.{IsScene, IsFormal};
+ghost use Rattle.annotation_scenes.specs.Scenes.{IsScene, IsFormal};
 ghost use Rattle.program_quantifiers.specs.Words.{any_variables};
 
-use condition_annotations::formal::FormalScene;
-use condition_annotations::scene::Scene;
+use annotation_scenes::formal::FormalScene;
+use annotation_scenes::scene::Scene;
 use condition_formulas::formulas::null;
 use condition_formulas::symbolic::{Symbolic, symbolic_of_type};
 use method::program::{DeclaredType, FunctionInfo, VariableInfo};

@@ -12,7 +12,7 @@ use Rattle.condition_formulas.specs.Standing.{StandsAs, StandAll, Later}
 use Rattle.condition_formulas.proofs.Rows.{at, as_long}
 use Rattle.condition_formulas.proofs.Nodes.{one_tree}
 use Rattle.condition_formulas.proofs.Walks.{Opened}
-use Rattle.condition_annotations.proofs.Done.{Done, done_first, done_next, done_last}
+use Rattle.annotation_scenes.proofs.Done.{Done, done_first, done_next, done_last}
 use Rattle.quantified_formulas.specs.Renumbering.{index_by_place, Renumbered, AreRenumbered}
 
 -- Places.

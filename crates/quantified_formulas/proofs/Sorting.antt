@@ -14,7 +14,7 @@ use Rattle.condition_formulas.specs.declared.symbolic.Symbolic.{Symbolic}
 use Rattle.condition_formulas.specs.declared.symbolic.Symbolic.TheVariants as code
 use Rattle.condition_formulas.specs.Standing.{StandAll, Each}
 use Rattle.condition_formulas.specs.Symbolics.{IsSymbolic, Alike, AreSymbolic, EachSymbolic}
-use Rattle.condition_annotations.specs.Scenes.{AreWords}
+use Rattle.annotation_scenes.specs.Scenes.{AreWords}
 use Rattle.quantified_formulas.specs.Sorts.{value_sort, word_sorts, sort_at}
 
 alike_sort : (ts : List Term) (n : ℕ) (v : Symbolic) (w : symbolic.Symbolic) → Alike ts v w → sort_of_constant (symbolic.term (constant_like n w)) ≡ value_sort v

@@ -4,7 +4,7 @@ use Rattle.terms.specs.declared.sort.Sort.{Sort}
 use Rattle.terms.specs.declared.sort.Sort.TheVariants as s
 use Rattle.condition_formulas.specs.declared.symbolic.Symbolic.{Symbolic}
 use Rattle.condition_formulas.specs.declared.symbolic.Symbolic.TheVariants as code
-use Rattle.condition_annotations.specs.declared.scene.Scene.{Scene}
+use Rattle.annotation_scenes.specs.declared.scene.Scene.{Scene}
 
 -- the sort of a constant like this value
 abbrev pub value_sort : Symbolic → Sort

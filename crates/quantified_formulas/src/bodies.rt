@@ -5,14 +5,14 @@ ghost use Rattle.terms.specs.Formula.{Formula};
 ghost use Rattle.conditions.specs.Formulas.{null};
 ghost use Rattle.conditions.specs.Annotations as spec;
 ghost use Rattle.condition_formulas.specs.Standing.{StandAll, Later};
-ghost use Rattle.condition_annotations.specs.Scenes.{IsScene};
+ghost use Rattle.annotation_scenes.specs.Scenes.{IsScene};
 ghost use Rattle.quantified_formulas.specs.Bodies as bodies;
 ghost use Rattle.quantified_formulas.specs.Forms.{IsQuantified};
 
 use crate::quantified::{Quantified, quantify};
-use condition_annotations::formal::formal_scene;
-use condition_annotations::quantifiers::{body_of_all, body_of_only, body_of_some, subject_of};
-use condition_annotations::scene::Scene;
+use annotation_scenes::formal::formal_scene;
+use annotation_scenes::quantifiers::{body_of_all, body_of_only, body_of_some, subject_of};
+use annotation_scenes::scene::Scene;
 use condition_annotations::translate::{terms_of, tests, translate};
 use condition_formulas::formulas::null;
 use condition_formulas::lists::joined;

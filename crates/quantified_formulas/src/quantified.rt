@@ -7,12 +7,12 @@ ghost use Rattle.terms.specs.Formula.{Formula};
 ghost use Rattle.conditions.specs.Annotations as annotation;
 ghost use Rattle.conditions.specs.Quantified as spec;
 ghost use Rattle.condition_formulas.specs.Standing.{StandsAs, Later};
-ghost use Rattle.condition_annotations.specs.Scenes.{IsScene};
+ghost use Rattle.annotation_scenes.specs.Scenes.{IsScene};
 ghost use Rattle.quantified_formulas.specs.Sorts.{value_sort, scene_sorts, sort_at, without};
 ghost use Rattle.quantified_formulas.specs.Forms.{IsQuantified};
 
 use crate::renumbering::renumbered;
-use condition_annotations::scene::Scene;
+use annotation_scenes::scene::Scene;
 use condition_formulas::constants::constants;
 use condition_formulas::symbolic::Symbolic;
 use std::alloc::{AllocError, Global};

@@ -1,9 +1,3 @@
-pub mod Ahead
-pub mod Scenes
-pub mod Turning
-pub mod Calling
-pub mod Frames
-pub mod Statements
 pub mod Settling
 pub mod Threads
 pub mod Stepping

@@ -3,12 +3,13 @@ use Rattle.std.proofs.Common.{◌≡◌, List, [], ◌∷◌, ◌++◌, map, Opt
 use Rattle.object_types.specs.declared.references.Ref.{Ref}
 use Rattle.object_types.specs.declared.values.Value.{Value}
 use Rattle.method.specs.Machine as m
-use Rattle.ref_machine.specs.declared.state.Activation.{Activation}
-use Rattle.ref_machine.specs.declared.state.Remaining.{Remaining}
-use Rattle.ref_machine.specs.declared.turn.Frames.TheVariants.{Calls, Returns}
-use Rattle.ref_machine.specs.States.{ahead, bare_frame, frame_at, frame_of}
-use Rattle.ref_machine.specs.Turns.{AreFrames, Changed, Settled, behind, put_onto, stored_in}
-use Rattle.ref_machine.proofs.Frames.{on_top, frames_more}
+use Rattle.machine_turns.specs.declared.activation.Activation.{Activation}
+use Rattle.machine_turns.specs.declared.activation.Remaining.{Remaining}
+use Rattle.machine_turns.specs.declared.turn.Frames.TheVariants.{Calls, Returns}
+use Rattle.machine_turns.specs.Frames.{ahead, bare_frame, frame_at, frame_of}
+use Rattle.machine_turns.specs.Turns.{AreFrames, behind, put_onto, stored_in}
+use Rattle.machine_turns.proofs.Frames.{on_top, frames_more}
+use Rattle.ref_machine.specs.Settling.{Changed, Settled}
 
 -- a call
 module _ (front : List Activation) (frame frame' entered : Activation) (r : Option Remaining) (turned : frame_of frame' ≡ m.went (frame_of frame) frame.locals.items (put_onto r (behind (ahead frame.code.items)))) where

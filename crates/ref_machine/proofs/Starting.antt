@@ -24,9 +24,10 @@ use Rattle.machine_values.specs.declared.stop.Stop.{Stop}
 use Rattle.machine_values.specs.declared.stop.Stop.TheVariants as stop
 use Rattle.machine_values.specs.Answers.{Stops, Tests, Verdict, Passes, Fails, Overflows, one_verdict, Finds}
 use Rattle.machine_values.specs.Spots.{heap_at, context_at}
-use Rattle.ref_machine.specs.declared.state.Activation.{Activation}
+use Rattle.machine_turns.specs.declared.activation.Activation.{Activation}
+use Rattle.machine_turns.specs.Frames.{bare_frame, frame_of}
 use Rattle.ref_machine.specs.declared.state.State.{State}
-use Rattle.ref_machine.specs.States.{bare_frame, frame_of, thread_of}
+use Rattle.ref_machine.specs.States.{thread_of}
 use Rattle.ref_machine.specs.Starting.{start_verdict, Starts, StartsIn}
 use Rattle.ref_machine.proofs.Threads.{begun_bare}
 

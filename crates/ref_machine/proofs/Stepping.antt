@@ -13,20 +13,23 @@ use Rattle.machine_values.specs.declared.stop.Stop.TheVariants as stop
 use Rattle.machine_values.specs.Answers.{StopsOr}
 use Rattle.machine_values.specs.Spots.{heap_at}
 use Rattle.machine_objects.specs.Runs.{Ended, Lands}
+use Rattle.machine_turns.specs.declared.turn.Turn.{Turn}
+use Rattle.machine_turns.specs.Frames.{bare_heap}
+use Rattle.machine_turns.specs.Turns.{IsHeap, AreFrames, Turned, TurnsAll, behind}
+use Rattle.machine_turns.specs.RunsOut.{ThreadRunsOut}
 use Rattle.ref_machine.specs.declared.state.State.{State}
 use Rattle.ref_machine.specs.declared.state.Thread.{Thread}
 use Rattle.ref_machine.specs.declared.step.Plan.{Plan}
 use Rattle.ref_machine.specs.declared.step.Stepped.TheVariants as stepped
-use Rattle.ref_machine.specs.States.{bare_heap, bare_thread, thread_of, Stands}
-use Rattle.ref_machine.specs.Turns.{IsHeap, AreFrames, Changed, Turned, TurnsAll, behind}
-use Rattle.ref_machine.specs.declared.turn.Turn.{Turn}
+use Rattle.ref_machine.specs.States.{bare_thread, thread_of, Stands}
+use Rattle.ref_machine.specs.Settling.{Changed}
 use Rattle.ref_machine.proofs.Threads.{has, Place, no_place, none_found, next_same, new_bare}
 use Rattle.object_types.specs.declared.references.Ref.{Ref}
 use Rattle.method.specs.Actions.{Fresh}
 use Rattle.machine_objects.specs.Runs.{contexts_at}
 use Rattle.ref_machine.specs.Plans.{AreThreads, new_thread, turn_in, Planned, Committed, Answers, heap_or}
 use Rattle.ref_machine.specs.Answers.{Steps}
-use Rattle.ref_machine.specs.RunsOut.{ThreadRunsOut, StepRunsOut}
+use Rattle.ref_machine.specs.RunsOut.{StepRunsOut}
 
 record Landed {A : Type 0} (Q : A → Type 0) (o : Outcome A) : Type 0 where
   what : A

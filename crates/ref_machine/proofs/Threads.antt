@@ -8,10 +8,11 @@ use Rattle.std.proofs.lemmas.Bool.Decides.{nat_tests}
 use Rattle.object_types.specs.Sets.{some}
 use Rattle.method.specs.Machine as m
 use Rattle.ref_machine.specs.declared.state.Thread.{Thread}
-use Rattle.ref_machine.specs.States.{bare_frame, bare_thread, thread_of}
+use Rattle.machine_turns.specs.Frames.{bare_frame}
+use Rattle.ref_machine.specs.States.{bare_thread, thread_of}
 use Rattle.std.proofs.lemmas.Bool.{eqb-true}
 use Rattle.ref_machine.specs.RunsOut.{IsTwice}
-use Rattle.ref_machine.specs.Turns.{AreFrames}
+use Rattle.machine_turns.specs.Turns.{AreFrames}
 use Rattle.ref_machine.specs.Plans.{AreThreads, new_thread}
 use Rattle.object_types.specs.declared.references.Ref.{Ref}
 use Rattle.method.specs.declared.program.FunctionInfo.{FunctionInfo}

@@ -1,7 +1,6 @@
 pub mod Answers
 pub mod Plans
-pub mod Scenes
+pub mod RunsOut
+pub mod Settling
 pub mod Starting
 pub mod States
-pub mod Turns
-pub mod RunsOut

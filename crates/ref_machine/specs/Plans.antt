@@ -12,12 +12,14 @@ use Rattle.machine_values.specs.declared.stop.Stop.TheVariants.{Misfit, Fault, W
 use Rattle.machine_values.specs.Answers.{ComesOr}
 use Rattle.machine_values.specs.Spots.{context_at}
 use Rattle.machine_objects.specs.Runs.{Lands}
+use Rattle.machine_turns.specs.Frames.{bare_frame}
+use Rattle.machine_turns.specs.Turns.{AreFrames, IsHeap}
 use Rattle.ref_machine.specs.declared.state.Thread.{Thread}
 use Rattle.ref_machine.specs.declared.state.State.{State}
 use Rattle.ref_machine.specs.declared.step.Plan.{Plan}
 use Rattle.ref_machine.specs.declared.step.Stepped.TheVariants as stepped
-use Rattle.ref_machine.specs.States.{bare_frame, bare_thread, thread_of}
-use Rattle.ref_machine.specs.Turns.{AreFrames, Changed, IsHeap, Settled}
+use Rattle.ref_machine.specs.States.{bare_thread, thread_of}
+use Rattle.ref_machine.specs.Settling.{Changed, Settled}
 use Rattle.ref_machine.specs.Answers.{Steps}
 use Rattle.ref_machine.specs.RunsOut.{StepRunsOut}
 

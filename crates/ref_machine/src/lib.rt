@@ -1,13 +1,7 @@
 //! The reference machine: threads that take turns, one item at a time, on one heap.
 #![tactic(auto)]
 
-pub mod calls;
-pub mod checks;
-pub mod code;
-pub mod items;
-pub mod returns;
 pub mod settle;
 pub mod start;
 pub mod state;
 pub mod step;
-pub mod turn;

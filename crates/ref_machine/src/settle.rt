@@ -1,11 +1,11 @@
 //! Putting a turn's change into the functions of a thread.
 
 ghost use Rattle.std.specs.Prelude.{◌≡◌, ◌+◌, ◌≤◌, ◌++◌, OnOk, OnErr, vec_len, vec_capacity};
-ghost use Rattle.ref_machine.specs.States.{frame_of, frames_of};
-ghost use Rattle.ref_machine.specs.Turns.{Settled, advanced, replaced, restored};
+ghost use Rattle.machine_turns.specs.Frames.{frame_of, frames_of};
+ghost use Rattle.ref_machine.specs.Settling.{Settled, advanced, replaced, restored};
 
-use crate::state::{Activation, Remaining};
-use crate::turn::Frames;
+use machine_turns::activation::{Activation, Remaining};
+use machine_turns::turn::Frames;
 use object_types::values::Value;
 use std::alloc::AllocError;
 
@@ -17,45 +17,46 @@ pub fn append_reserved<T: Drop>(to: &mut Vec<T>, mut more: Vec<T>)
     let _ = to.append(&mut more);
 }
 
-impl<'p> Activation<'p> {
-    /// Takes the next item, and puts this code in its place, the next item last.
-    fn advance(
-        &mut self,
-        locals: Option<Vec<Value>>,
-        code: Vec<Remaining<'p>>,
-    ) -> Result<(), AllocError>
-        ensures ok { OnOk result (frame_of self.new ≡ advanced self.old locals code.entry.items) }
-        ensures err { OnErr result (frame_of self.new ≡ frame_of self.old) }
-    {
-        self.code.reserve(code.len())?;
-        let _ = self.code.pop();
-        append_reserved(&mut self.code, code);
-        if let Some(locals) = locals {
-            self.locals = locals;
-        }
-        Ok(())
+/// Takes the next item of the function, and puts this code in its place, the next item last.
+fn advance<'p>(
+    frame: &mut Activation<'p>,
+    locals: Option<Vec<Value>>,
+    code: Vec<Remaining<'p>>,
+) -> Result<(), AllocError>
+    ensures ok { OnOk result (frame_of frame.new ≡ advanced frame.old locals code.entry.items) }
+    ensures err { OnErr result (frame_of frame.new ≡ frame_of frame.old) }
+{
+    frame.code.reserve(code.len())?;
+    let _ = frame.code.pop();
+    append_reserved(&mut frame.code, code);
+    if let Some(locals) = locals {
+        frame.locals = locals;
     }
+    Ok(())
+}
 
-    /// Takes the next item, and puts this one in its place, if there is one.
-    fn replace_next(&mut self, item: Option<Remaining<'p>>) -> Result<(), AllocError>
-        ensures ok { OnOk result (frame_of self.new ≡ replaced self.old item.entry) }
-        ensures err { OnErr result (frame_of self.new ≡ frame_of self.old) }
-    {
-        self.code.reserve(1)?;
-        let _ = self.code.pop();
-        if let Some(item) = item {
-            self.code.push_reserved(item);
-        }
-        Ok(())
+/// Takes the next item of the function, and puts this one in its place, if there is one.
+fn replace_next<'p>(
+    frame: &mut Activation<'p>,
+    item: Option<Remaining<'p>>,
+) -> Result<(), AllocError>
+    ensures ok { OnOk result (frame_of frame.new ≡ replaced frame.old item.entry) }
+    ensures err { OnErr result (frame_of frame.new ≡ frame_of frame.old) }
+{
+    frame.code.reserve(1)?;
+    let _ = frame.code.pop();
+    if let Some(item) = item {
+        frame.code.push_reserved(item);
     }
+    Ok(())
+}
 
-    /// Takes the next item; these are the variables then.
-    fn store(&mut self, locals: Vec<Value>)
-        ensures { frame_of self.new ≡ restored self.old locals.items }
-    {
-        let _ = self.code.pop();
-        self.locals = locals;
-    }
+/// Takes the next item of the function; these are its variables then.
+fn store(frame: &mut Activation<'_>, locals: Vec<Value>)
+    ensures { frame_of frame.new ≡ restored frame.old locals.items }
+{
+    let _ = frame.code.pop();
+    frame.locals = locals;
 }
 
 /// Puts the change into the functions; refused, it leaves them as they were.
@@ -68,7 +69,7 @@ pub fn settle<'p>(frames: &mut Vec<Activation<'p>>, change: Frames<'p>) -> Resul
             let Some(mut frame) = frames.pop() else {
                 return Ok(());
             };
-            let outcome = frame.advance(locals, code);
+            let outcome = advance(&mut frame, locals, code);
             frames.push_reserved(frame);
             outcome
         }
@@ -77,7 +78,7 @@ pub fn settle<'p>(frames: &mut Vec<Activation<'p>>, change: Frames<'p>) -> Resul
             let Some(mut frame) = frames.pop() else {
                 return Ok(());
             };
-            let outcome = frame.replace_next(receipt);
+            let outcome = replace_next(&mut frame, receipt);
             frames.push_reserved(frame);
             if let Err(fault) = outcome {
                 return Err(fault);
@@ -95,7 +96,7 @@ pub fn settle<'p>(frames: &mut Vec<Activation<'p>>, change: Frames<'p>) -> Resul
             let Some(mut caller) = frames.pop() else {
                 return Ok(());
             };
-            caller.store(locals);
+            store(&mut caller, locals);
             frames.push_reserved(caller);
             Ok(())
         }

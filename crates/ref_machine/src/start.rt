@@ -8,10 +8,10 @@ ghost use Rattle.machine_values.specs.Answers.{Finds};
 ghost use Rattle.machine_values.specs.Testing.{code_scene};
 ghost use Rattle.ref_machine.specs.Starting.{Starts, StartsNot, StartsIn, main_start, start_verdict};
 
-use crate::code::{begin, function_of};
 use crate::state::{State, Thread};
 use int_ranges::exact::Wide;
 use machine_ownership::spawn::{call_env, callee};
+use machine_turns::code::{begin, function_of};
 use machine_values::stop::Stop;
 use machine_values::tables::{THREADS, in_type};
 use machine_values::tests::spec_test;

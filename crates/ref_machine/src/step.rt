@@ -10,12 +10,12 @@ ghost use Rattle.ref_machine.specs.Answers.{Steps, NotNext};
 ghost use Rattle.ref_machine.specs.Plans.{new_thread, Plans, Committed, Answers};
 ghost use Rattle.ref_machine.specs.RunsOut.{StepRunsOut};
 
-use crate::code::first_frame;
-use crate::items::turn;
 use crate::settle::{append_reserved, settle};
 use crate::state::{State, Thread};
-use crate::turn::{Frames, Turn};
 use int_ranges::exact::Wide;
+use machine_turns::code::first_frame;
+use machine_turns::items::turn;
+use machine_turns::turn::{Frames, Turn};
 use machine_values::spot::Context;
 use machine_values::stop::Stop;
 use method::program::{CheckKind, Program};

@@ -1,7 +1,7 @@
 use Rattle.conditions.specs.Annotations.{formula}
-use Rattle.condition_annotations.specs.Scenes.{IsScene}
+use Rattle.annotation_scenes.specs.Scenes.{IsScene}
 use Rattle.condition_annotations.proofs.Mapped.{mapped_next, mapped_last}
-use Rattle.condition_annotations.proofs.Scenes.{scene_later}
+use Rattle.annotation_scenes.proofs.Scenes.{scene_later}
 use Rattle.condition_actions.proofs.contracts.clauses.Goals as goal
 
 pub loop-clause-preserved : goal.loop-clause-preserved

@@ -1,5 +1,5 @@
 use Rattle.conditions.specs.Annotations.{formula}
-use Rattle.condition_annotations.specs.Scenes.{IsScene}
+use Rattle.annotation_scenes.specs.Scenes.{IsScene}
 use Rattle.condition_annotations.proofs.Mapped.{Mapped}
 use Rattle.condition_actions.proofs.contracts.clauses.Given as goal
 

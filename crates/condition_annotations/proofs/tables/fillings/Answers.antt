@@ -2,10 +2,10 @@ use Rattle.std.proofs.Common.{refl, get_or}
 use Rattle.method.specs.declared.program.Hole.TheVariants.{OfVariable}
 use Rattle.conditions.specs.Symbolic.{term}
 use Rattle.conditions.specs.Annotations.{hole_value}
-use Rattle.condition_annotations.specs.Scenes.{IsScene}
-use Rattle.condition_annotations.proofs.Scenes.{scene_later}
+use Rattle.annotation_scenes.specs.Scenes.{IsScene}
+use Rattle.annotation_scenes.proofs.Scenes.{scene_later}
 use Rattle.condition_annotations.proofs.Mapped.{mapped_next}
-use Rattle.condition_annotations.proofs.Done.{then_later}
+use Rattle.annotation_scenes.proofs.Done.{then_later}
 use Rattle.condition_annotations.proofs.tables.fillings.Goals as goal
 
 pub loop-hole-preserved : goal.loop-hole-preserved

@@ -1,6 +1,6 @@
 use Rattle.conditions.specs.Symbolic.{term}
 use Rattle.conditions.specs.Annotations.{hole_value}
-use Rattle.condition_annotations.specs.Scenes.{IsScene}
+use Rattle.annotation_scenes.specs.Scenes.{IsScene}
 use Rattle.condition_annotations.proofs.Mapped.{Mapped}
 use Rattle.condition_annotations.proofs.tables.fillings.Given as goal
 

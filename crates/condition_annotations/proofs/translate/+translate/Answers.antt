@@ -6,9 +6,9 @@ use Rattle.condition_formulas.specs.declared.symbolic.Symbolic.{Symbolic}
 use Rattle.condition_formulas.specs.Symbolics.{AreSymbolic}
 use Rattle.condition_formulas.proofs.Rows.{none, more, both, then_one, all_later, same_ids}
 use Rattle.condition_formulas.proofs.Symbolics.{is_truth, is_reference, symbolic_later}
-use Rattle.condition_annotations.specs.Scenes.{IsScene}
-use Rattle.condition_annotations.proofs.Scenes.{scene_later}
-use Rattle.condition_annotations.proofs.Done.{then_later}
+use Rattle.annotation_scenes.specs.Scenes.{IsScene}
+use Rattle.annotation_scenes.proofs.Scenes.{scene_later}
+use Rattle.annotation_scenes.proofs.Done.{then_later}
 use Rattle.condition_annotations.proofs.Mapped.{mapped_next, earlier}
 use Rattle.condition_annotations.proofs.Rows.{claims_row, claims_only_row, exists_row}
 use Rattle.condition_annotations.proofs.translate.+translate.Goals as goal

@@ -1,6 +1,6 @@
 use Rattle.conditions.specs.Symbolic.{term}
 use Rattle.conditions.specs.Annotations.{translate, formula}
-use Rattle.condition_annotations.specs.Scenes.{IsScene}
+use Rattle.annotation_scenes.specs.Scenes.{IsScene}
 use Rattle.condition_annotations.proofs.Mapped.{Mapped}
 use Rattle.condition_annotations.proofs.translate.+translate.Given as goal
 

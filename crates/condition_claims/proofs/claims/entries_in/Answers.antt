@@ -1,4 +1,4 @@
-use Rattle.condition_annotations.proofs.Scenes.{scene_later}
+use Rattle.annotation_scenes.proofs.Scenes.{scene_later}
 use Rattle.condition_claims.proofs.Noted.{no_entry, one_entry, every_entry}
 use Rattle.condition_claims.proofs.claims.entries_in.Goals as goal
 

@@ -1,5 +1,5 @@
 use Rattle.conditions.specs.Annotations.{entry_of}
-use Rattle.condition_annotations.specs.Scenes.{IsScene}
+use Rattle.annotation_scenes.specs.Scenes.{IsScene}
 use Rattle.condition_claims.proofs.Noted.{EntriesTo}
 use Rattle.condition_claims.proofs.claims.entries_in.Given as goal
 

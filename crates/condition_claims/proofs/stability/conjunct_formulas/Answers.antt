@@ -1,9 +1,9 @@
 use Rattle.terms.specs.Formula.{Formula}
 use Rattle.conditions.specs.Annotations.{Scene, entry_formula, entry_of}
 use Rattle.condition_formulas.specs.Standing.{StandsAs}
-use Rattle.condition_annotations.specs.Scenes.{IsScene}
+use Rattle.annotation_scenes.specs.Scenes.{IsScene}
 use Rattle.condition_annotations.proofs.Mapped.{mapped_next, mapped_last}
-use Rattle.condition_annotations.proofs.Scenes.{scene_later}
+use Rattle.annotation_scenes.proofs.Scenes.{scene_later}
 use Rattle.condition_claims.proofs.stability.conjunct_formulas.Goals as goal
 
 pub loop-conjunct-preserved : goal.loop-conjunct-preserved

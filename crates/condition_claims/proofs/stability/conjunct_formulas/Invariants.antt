@@ -1,7 +1,7 @@
 use Rattle.terms.specs.Formula.{Formula}
 use Rattle.conditions.specs.Annotations.{Scene, entry_formula, entry_of}
 use Rattle.condition_formulas.specs.Standing.{StandsAs}
-use Rattle.condition_annotations.specs.Scenes.{IsScene}
+use Rattle.annotation_scenes.specs.Scenes.{IsScene}
 use Rattle.condition_annotations.proofs.Mapped.{Mapped}
 use Rattle.condition_claims.proofs.stability.conjunct_formulas.Given as goal
 

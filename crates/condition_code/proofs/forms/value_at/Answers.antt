@@ -5,7 +5,7 @@ use Rattle.conditions.specs.Symbolic as symbolic
 use Rattle.condition_formulas.specs.declared.symbolic.Symbolic.TheVariants as code
 use Rattle.condition_formulas.specs.Symbolics.{IsSymbolic}
 use Rattle.condition_formulas.proofs.Symbolics.{is_number}
-use Rattle.condition_annotations.proofs.Scenes.{symbolic_here, as_many, beyond}
+use Rattle.annotation_scenes.proofs.Scenes.{symbolic_here, as_many, beyond}
 use Rattle.condition_code.proofs.forms.value_at.Goals as goal
 
 pub returns-then-at-values-clause-stands : goal.returns-then-at-values-clause-stands

@@ -1,8 +1,8 @@
 use Rattle.std.proofs.Common.{refl, get_or}
 use Rattle.method.specs.declared.program.Hole.TheVariants.{OfVariable}
 use Rattle.conditions.specs.Annotations.{hole_value}
-use Rattle.condition_annotations.specs.Scenes.{IsScene}
-use Rattle.condition_annotations.proofs.Scenes.{scene_later}
+use Rattle.annotation_scenes.specs.Scenes.{IsScene}
+use Rattle.annotation_scenes.proofs.Scenes.{scene_later}
 use Rattle.condition_scenes.proofs.Filled.{filled_next}
 use Rattle.condition_scenes.proofs.conjuncts.hole_values.Goals as goal
 

@@ -1,5 +1,5 @@
 use Rattle.conditions.specs.Annotations.{hole_value}
-use Rattle.condition_annotations.specs.Scenes.{IsScene}
+use Rattle.annotation_scenes.specs.Scenes.{IsScene}
 use Rattle.condition_scenes.proofs.Filled.{Filled}
 use Rattle.condition_scenes.proofs.conjuncts.hole_values.Given as goal
 

@@ -1,6 +1,6 @@
 use Rattle.std.specs.Prelude.{IfOk, length, ◌≤◌}
 use Rattle.std.proofs.Common.{arith, subst, sym}
-use Rattle.condition_annotations.proofs.Scenes.{beyond, tree_here}
+use Rattle.annotation_scenes.proofs.Scenes.{beyond, tree_here}
 use Rattle.condition_formulas.proofs.Rows.{as_long}
 use Rattle.condition_formulas.specs.Standing.{StandsAs}
 use Rattle.conditions.specs.Formulas.{null}

@@ -1,6 +1,6 @@
 use Rattle.std.proofs.Common.{ap, sym}
 use Rattle.conditions.specs.Statements.{any_result}
-use Rattle.condition_walk.proofs.Runs.{as_run}
+use Rattle.condition_control.proofs.Runs.{as_run}
 use Rattle.condition_walk.proofs.calls.any_result.Goals as goal
 
 pub returns-in_ok-value-in-Some : goal.returns-in_ok-value-in-Some

@@ -1,6 +1,6 @@
 use Rattle.std.proofs.Common.{ap, sym}
 use Rattle.conditions.specs.Statements.{call}
-use Rattle.condition_walk.proofs.Runs.{as_run}
+use Rattle.condition_control.proofs.Runs.{as_run}
 use Rattle.condition_walk.proofs.calls.call.Goals as goal
 
 pub returns-in_ok-received-in-Some : goal.returns-in_ok-received-in-Some

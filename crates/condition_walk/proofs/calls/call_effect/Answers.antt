@@ -1,4 +1,4 @@
-use Rattle.condition_annotations.proofs.Done.{then_later}
+use Rattle.annotation_scenes.proofs.Done.{then_later}
 use Rattle.condition_formulas.proofs.Rows.{same_ids}
 use Rattle.condition_formulas.proofs.Symbolics.{are_later}
 use Rattle.condition_code.proofs.States.{spot_later, value_and_state_later}

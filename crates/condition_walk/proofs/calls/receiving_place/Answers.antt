@@ -2,7 +2,7 @@ use Rattle.std.proofs.Common.{ap, sym}
 use Rattle.conditions.specs.Statements.{receiving_place}
 use Rattle.condition_code.proofs.Walks.{gives, run_then}
 use Rattle.condition_walk.proofs.Receiving.{no_place, local_place, one_place}
-use Rattle.condition_walk.proofs.Runs.{as_run}
+use Rattle.condition_control.proofs.Runs.{as_run}
 use Rattle.condition_walk.proofs.calls.receiving_place.Goals as goal
 
 pub returns-in-Nobody : goal.returns-in-Nobody

@@ -3,8 +3,8 @@ use Rattle.std.proofs.Common.{ap}
 use Rattle.method.specs.declared.program.Stmt.{Stmt}
 use Rattle.condition_code.proofs.States.{spot_later}
 use Rattle.condition_code.proofs.Walks.{run_then}
-use Rattle.condition_walk.specs.Forms.{all_stmts}
-use Rattle.condition_walk.proofs.Runs.{as_run}
+use Rattle.condition_control.specs.Forms.{all_stmts}
+use Rattle.condition_control.proofs.Runs.{as_run}
 use Rattle.condition_walk.proofs.Entries.{body_is}
 use Rattle.condition_walk.proofs.entry.body.Goals as goal
 

@@ -4,12 +4,12 @@ use Rattle.conditions.specs.Actions.{items_of}
 use Rattle.conditions.specs.Code as spec
 use Rattle.conditions.specs.Formulas.{me}
 use Rattle.conditions.specs.Statements.{body, entry_facts, outside_spot}
-use Rattle.condition_annotations.proofs.Done.{then_later}
+use Rattle.annotation_scenes.proofs.Done.{then_later}
 use Rattle.condition_formulas.proofs.Rows.{same_ids}
 use Rattle.condition_formulas.proofs.Symbolics.{are_later}
 use Rattle.condition_code.proofs.States.{state_later}
 use Rattle.condition_code.proofs.Walks.{run_built, facts_then}
-use Rattle.condition_walk.proofs.Runs.{as_run}
+use Rattle.condition_control.proofs.Runs.{as_run}
 use Rattle.condition_walk.proofs.entry.enter.Goals as goal
 
 pub returns : goal.returns

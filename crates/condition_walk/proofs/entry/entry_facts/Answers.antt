@@ -1,4 +1,4 @@
-use Rattle.condition_annotations.proofs.Done.{then_later}
+use Rattle.annotation_scenes.proofs.Done.{then_later}
 use Rattle.condition_formulas.proofs.Rows.{both, more, none, all_later, same_ids}
 use Rattle.condition_formulas.proofs.Symbolics.{are_later}
 use Rattle.conditions.specs.Statements.{outside_spot}

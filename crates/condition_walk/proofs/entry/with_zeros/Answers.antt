@@ -2,7 +2,7 @@ use Rattle.std.proofs.Common.{refl}
 use Rattle.condition_formulas.proofs.Symbolics.{are_later}
 use Rattle.condition_code.proofs.States.{state_later, same_values}
 use Rattle.condition_walk.proofs.Entries.{beside, other_locals}
-use Rattle.condition_walk.proofs.Steps.{begun_twice}
+use Rattle.condition_control.proofs.Steps.{begun_twice}
 use Rattle.condition_walk.proofs.entry.with_zeros.Goals as goal
 
 pub returns-clause-stands : goal.returns-clause-stands

@@ -4,7 +4,7 @@ use Rattle.method.specs.declared.program.Stmt.{Stmt}
 use Rattle.statement_text.specs.Rows.{all_declare, one_returns}
 use Rattle.condition_code.proofs.States.{spot_later, state_later}
 use Rattle.condition_code.proofs.Walks.{run_then}
-use Rattle.condition_walk.specs.Forms.{branch_start}
+use Rattle.condition_control.specs.Forms.{branch_start}
 use Rattle.condition_formulas.proofs.Symbolics.{symbolic_later}
 use Rattle.condition_walk.proofs.Entries.{stmts_first, stmts_next, stmts_last}
 use Rattle.condition_walk.proofs.Forms.{branch_run, while_run, do_while_run, unwrapping_run, same_stmt}

@@ -1,6 +1,6 @@
 use Rattle.condition_code.proofs.States.{spot_later}
 use Rattle.condition_code.proofs.Walks.{run_then}
-use Rattle.condition_walk.proofs.Steps.{same_interference}
+use Rattle.condition_control.proofs.Steps.{same_interference}
 use Rattle.condition_walk.proofs.statements.action_statement.Goals as goal
 
 pub returns : goal.returns

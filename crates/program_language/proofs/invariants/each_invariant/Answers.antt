@@ -1,8 +1,8 @@
 use Rattle.std.proofs.Common.{sym, subst}
 use Rattle.method.specs.declared.program.StructInfo.{StructInfo}
 use Rattle.condition_meaning.specs.Languages.{struct_scene, invariant_formula}
-use Rattle.condition_annotations.specs.Scenes.{IsScene}
-use Rattle.condition_annotations.proofs.Scenes.{scene_later}
+use Rattle.annotation_scenes.specs.Scenes.{IsScene}
+use Rattle.annotation_scenes.proofs.Scenes.{scene_later}
 use Rattle.condition_annotations.proofs.Mapped.{Mapped, mapped_first, mapped_next, mapped_last}
 use Rattle.program_language.proofs.invariants.each_invariant.Goals as goal
 

@@ -1,6 +1,6 @@
 use Rattle.method.specs.declared.program.StructInfo.{StructInfo}
 use Rattle.condition_meaning.specs.Languages.{struct_scene, invariant_formula}
-use Rattle.condition_annotations.specs.Scenes.{IsScene}
+use Rattle.annotation_scenes.specs.Scenes.{IsScene}
 use Rattle.condition_annotations.proofs.Mapped.{Mapped}
 use Rattle.program_language.proofs.invariants.each_invariant.Given as goal
 

@@ -3,7 +3,7 @@ use Rattle.std.proofs.Common.{ap, sym, subst, ◌∙◌}
 use Rattle.conditions.specs.Quantified.{program_quantifiers}
 use Rattle.condition_meaning.specs.Languages.{number_bound, formulas_from, quantifiers_of}
 use Rattle.condition_formulas.proofs.Rows.{all_later}
-use Rattle.condition_annotations.proofs.Done.{then_later}
+use Rattle.annotation_scenes.proofs.Done.{then_later}
 use Rattle.program_quantifiers.specs.Quantifiers.{AreQuantified}
 use Rattle.program_language.specs.Numbered.{bound_of, AreBodies}
 use Rattle.program_language.proofs.Finding.{bound_is}

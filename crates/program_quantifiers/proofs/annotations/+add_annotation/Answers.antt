@@ -3,8 +3,8 @@ use Rattle.method.specs.declared.program.Spec.{Spec}
 use Rattle.conditions.specs.Annotations.{Scene}
 use Rattle.conditions.specs.Quantified.{spec_quantifiers}
 use Rattle.condition_formulas.proofs.Rows.{same_ids}
-use Rattle.condition_annotations.specs.Scenes.{IsScene}
-use Rattle.condition_annotations.proofs.Scenes.{scene_later}
+use Rattle.annotation_scenes.specs.Scenes.{IsScene}
+use Rattle.annotation_scenes.proofs.Scenes.{scene_later}
 use Rattle.program_quantifiers.specs.Quantifiers.{Adds}
 use Rattle.program_quantifiers.proofs.Adding.{adds_none, then_adds, so_adds, same_added, to_graph, row_first, row_next, row_last}
 use Rattle.program_quantifiers.proofs.Alike.{no_part, one_part, two_parts}

@@ -1,7 +1,7 @@
 use Rattle.method.specs.declared.program.Spec.{Spec}
 use Rattle.conditions.specs.Annotations.{Scene}
 use Rattle.conditions.specs.Quantified.{spec_quantifiers}
-use Rattle.condition_annotations.specs.Scenes.{IsScene}
+use Rattle.annotation_scenes.specs.Scenes.{IsScene}
 use Rattle.program_quantifiers.proofs.Adding.{AddsUpTo}
 use Rattle.program_quantifiers.proofs.annotations.+add_annotation.Given as goal
 

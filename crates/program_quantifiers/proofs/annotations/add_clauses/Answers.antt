@@ -1,8 +1,8 @@
 use Rattle.method.specs.declared.program.Clause.{Clause}
 use Rattle.conditions.specs.Annotations.{Scene}
 use Rattle.conditions.specs.Quantified.{spec_quantifiers}
-use Rattle.condition_annotations.specs.Scenes.{IsScene}
-use Rattle.condition_annotations.proofs.Scenes.{scene_later}
+use Rattle.annotation_scenes.specs.Scenes.{IsScene}
+use Rattle.annotation_scenes.proofs.Scenes.{scene_later}
 use Rattle.program_quantifiers.proofs.Adding.{row_first, row_next, row_last}
 use Rattle.program_quantifiers.proofs.annotations.add_clauses.Goals as goal
 

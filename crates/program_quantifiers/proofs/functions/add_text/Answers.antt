@@ -1,4 +1,4 @@
-use Rattle.condition_annotations.proofs.Scenes.{scene_later}
+use Rattle.annotation_scenes.proofs.Scenes.{scene_later}
 use Rattle.program_quantifiers.proofs.Adding.{then_adds, so_adds}
 use Rattle.program_quantifiers.proofs.functions.add_text.Goals as goal
 

@@ -1,8 +1,8 @@
 use Rattle.std.proofs.Common.{ap, sym, subst, ◌∙◌}
 use Rattle.method.specs.declared.program.Stmt.{Stmt}
 use Rattle.conditions.specs.Quantified.{stmt_quantifiers, function_words}
-use Rattle.condition_annotations.specs.Scenes.{IsScene}
-use Rattle.condition_annotations.proofs.Scenes.{scene_later}
+use Rattle.annotation_scenes.specs.Scenes.{IsScene}
+use Rattle.annotation_scenes.proofs.Scenes.{scene_later}
 use Rattle.program_quantifiers.specs.Quantifiers.{Adds}
 use Rattle.program_quantifiers.proofs.Adding.{adds_none, so_adds, same_added, row_first, row_next, row_last}
 use Rattle.program_quantifiers.proofs.Alike.{no_statement}

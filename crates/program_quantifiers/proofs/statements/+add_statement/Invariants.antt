@@ -1,6 +1,6 @@
 use Rattle.method.specs.declared.program.Stmt.{Stmt}
 use Rattle.conditions.specs.Quantified.{stmt_quantifiers, function_words}
-use Rattle.condition_annotations.specs.Scenes.{IsScene}
+use Rattle.annotation_scenes.specs.Scenes.{IsScene}
 use Rattle.program_quantifiers.proofs.Adding.{AddsUpTo}
 use Rattle.program_quantifiers.proofs.statements.+add_statement.Given as goal
 

@@ -1,7 +1,7 @@
 use Rattle.std.proofs.Common.{ap, sym, subst}
 use Rattle.std.proofs.lemmas.List.{drop_all}
 use Rattle.conditions.specs.Formulas.{null}
-use Rattle.condition_annotations.proofs.Done.{DoneValues, values_first, values_next, values_last}
+use Rattle.annotation_scenes.proofs.Done.{DoneValues, values_first, values_next, values_last}
 use Rattle.program_quantifiers.specs.Words.{any_variables}
 use Rattle.program_quantifiers.proofs.Adding.{element}
 use Rattle.program_quantifiers.proofs.words.any_variables.Goals as goal

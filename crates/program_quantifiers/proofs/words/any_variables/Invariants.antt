@@ -2,7 +2,7 @@ use Rattle.std.specs.Prelude.{List, drop}
 use Rattle.terms.specs.declared.term.Term.{Term}
 use Rattle.conditions.specs.Formulas.{null}
 use Rattle.condition_formulas.specs.Standing.{StandsAs}
-use Rattle.condition_annotations.proofs.Done.{DoneValues}
+use Rattle.annotation_scenes.proofs.Done.{DoneValues}
 use Rattle.program_quantifiers.specs.Words.{any_variables}
 use Rattle.program_quantifiers.proofs.words.any_variables.Given as goal
 

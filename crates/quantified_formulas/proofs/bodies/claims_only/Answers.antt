@@ -1,6 +1,6 @@
 use Rattle.condition_formulas.proofs.Rows.{same_ids}
 use Rattle.condition_formulas.proofs.Symbolics.{symbolic_later}
-use Rattle.condition_annotations.proofs.Scenes.{scene_later}
+use Rattle.annotation_scenes.proofs.Scenes.{scene_later}
 use Rattle.quantified_formulas.proofs.bodies.claims_only.Goals as goal
 
 pub returns-clause-stands : goal.returns-clause-stands

@@ -1,6 +1,6 @@
 use Rattle.std.proofs.Common.{refl}
 use Rattle.condition_formulas.proofs.Rows.{all_later, same_ids}
-use Rattle.condition_annotations.proofs.Done.{then_later}
+use Rattle.annotation_scenes.proofs.Done.{then_later}
 use Rattle.quantified_formulas.proofs.members.fixed_members.Goals as goal
 
 pub returns-clause-stands : goal.returns-clause-stands

@@ -1,5 +1,5 @@
 use Rattle.condition_formulas.proofs.Rows.{all_later}
-use Rattle.condition_annotations.proofs.Done.{then_later}
+use Rattle.annotation_scenes.proofs.Done.{then_later}
 use Rattle.quantified_formulas.proofs.members.members_body.Goals as goal
 
 pub returns-clause-stands : goal.returns-clause-stands

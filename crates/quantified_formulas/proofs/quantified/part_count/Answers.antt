@@ -1,4 +1,4 @@
-use Rattle.condition_annotations.proofs.Done.{part_count}
+use Rattle.annotation_scenes.proofs.Done.{part_count}
 use Rattle.quantified_formulas.proofs.quantified.part_count.Goals as goal
 
 pub returns : goal.returns

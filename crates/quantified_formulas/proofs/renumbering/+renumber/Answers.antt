@@ -8,7 +8,7 @@ use Rattle.condition_formulas.proofs.Rows.{same_ids}
 use Rattle.condition_formulas.proofs.Walks.{opened, stands_within}
 use Rattle.quantified_formulas.specs.Renumbering.{AreRenumbered}
 use Rattle.quantified_formulas.proofs.Renaming.{as_known, known_more, renumbered_later, turn_next, turn_last, made_node}
-use Rattle.condition_annotations.proofs.Done.{then_later}
+use Rattle.annotation_scenes.proofs.Done.{then_later}
 use Rattle.quantified_formulas.proofs.renumbering.+renumber.Goals as goal
 
 pub returns-in-Some-clause-stands : goal.returns-in-Some-clause-stands

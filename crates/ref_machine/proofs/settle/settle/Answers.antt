@@ -1,6 +1,6 @@
 use Rattle.std.proofs.Common.{[], ◌∷◌, ◌++◌, ap, sym, subst, ◌∙◌}
-use Rattle.ref_machine.specs.declared.turn.Frames.TheVariants.{Returns}
-use Rattle.ref_machine.specs.Turns.{Settled}
+use Rattle.machine_turns.specs.declared.turn.Frames.TheVariants.{Returns}
+use Rattle.ref_machine.specs.Settling.{Settled}
 use Rattle.ref_machine.proofs.Settling.{settled_call, settled_return}
 use Rattle.ref_machine.proofs.settle.settle.Goals as goal
 
@@ -8,7 +8,7 @@ pub returns-in_default-outcome-clause-ok : goal.returns-in_default-outcome-claus
 returns-in_default-outcome-clause-ok c =
     let front = c.pop-in-Calls.new.self.items in
     let frame = c.in-Some-pop.frame in
-    let turned = c.replace_next-outcome.new.self in
+    let turned = c.replace_next-outcome.new.frame in
     let old = c.args.frames.now.items in
     let new = c.push_reserved-in-Calls-2.new.self.items in
     subst (λ ch. Settled ch old new) (sym c.in-Calls.is)
@@ -21,4 +21,4 @@ returns-in-Some-pop-3-clause-ok c =
     let front = c.pop-in-Returns-2.new.self.items in
     let new = c.push_reserved-in-Returns.new.self.items in
     subst (λ ch. Settled ch old new) (sym c.in-Returns.is) (subst (λ st. Settled (Returns st) old new) (sym c.in-Some-stored.is)
-    (settled_return front c.in-Some-pop-3.caller c.store.new.self c.in-Some-pop-2.field-0 c.in-Some-stored.locals c.store.ensures old mid new c.in-Some-pop-2.ensures.items c.in-Some-pop-3.ensures.items c.push_reserved-in-Returns.ensures.items))
+    (settled_return front c.in-Some-pop-3.caller c.store.new.frame c.in-Some-pop-2.field-0 c.in-Some-stored.locals c.store.ensures old mid new c.in-Some-pop-2.ensures.items c.in-Some-pop-3.ensures.items c.push_reserved-in-Returns.ensures.items))

@@ -4,9 +4,10 @@ use Rattle.object_types.specs.References.{thread}
 use Rattle.object_types.specs.Lookups.{heap_of, reference_of}
 use Rattle.method.specs.Actions.{callee}
 use Rattle.machine_values.specs.Answers.{Finds, Passes}
+use Rattle.machine_turns.specs.Frames.{frames_of}
 use Rattle.ref_machine.specs.declared.state.Thread.{Thread}
 use Rattle.ref_machine.specs.declared.state.State.{State}
-use Rattle.ref_machine.specs.States.{frames_of, thread_of}
+use Rattle.ref_machine.specs.States.{thread_of}
 use Rattle.ref_machine.specs.Starting.{start_verdict}
 use Rattle.ref_machine.proofs.Starting.{checks_stop_start, entry_stops_start, started}
 use Rattle.ref_machine.proofs.start.start_main.Goals as goal

@@ -1,5 +1,5 @@
 use Rattle.std.proofs.Common.{[], ◌∷◌, ◌++◌, ap, ◌∙◌}
-use Rattle.ref_machine.specs.States.{bare_frame, frames_of}
+use Rattle.machine_turns.specs.Frames.{bare_frame, frames_of}
 use Rattle.ref_machine.proofs.step.new_thread.Goals as goal
 
 pub returns-clause-ok : goal.returns-clause-ok

@@ -3,8 +3,8 @@ use Rattle.std.proofs.lemmas.Result.{err_from_is_err_and}
 use Rattle.object_types.specs.Sets.{some}
 use Rattle.machine_values.proofs.Outcomes.{runs_out_too}
 use Rattle.method.specs.Machine as m
+use Rattle.machine_turns.specs.Turns.{AreFrames}
 use Rattle.ref_machine.specs.States.{thread_of}
-use Rattle.ref_machine.specs.Turns.{AreFrames}
 use Rattle.ref_machine.specs.Plans.{turn_in}
 use Rattle.ref_machine.specs.RunsOut.{StepRunsOut, at_item, at_last_thread, at_twins}
 use Rattle.ref_machine.proofs.Threads.{has, place_at, rest_whole, next_same, twice_at}

@@ -1,5 +1,0 @@
-use Rattle.condition_annotations.proofs.Done.{Likes}
-use Rattle.condition_annotations.proofs.formal.constants_like.Given as goal
-
-abbrev pub invariant-loop-i : goal.invariant-loop-i
-invariant-loop-i l = Likes l.fn.graph l.graph l.first l.values l.like.items l.i

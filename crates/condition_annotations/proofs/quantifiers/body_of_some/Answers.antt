@@ -1,5 +1,0 @@
-use Rattle.condition_formulas.proofs.Rows.{all_later}
-use Rattle.condition_annotations.proofs.quantifiers.body_of_some.Goals as goal
-
-pub returns-clause-stands : goal.returns-clause-stands
-returns-clause-stands c = λ h v r fs h0 h1 h2 h3. c.implied_by_type.ensures.stands _ _ (c.in_ok-body.ensures.later _ _ (c.in_ok-together.ensures.later _ _ (c.in_ok-owned.ensures.later _ _ (c.in_ok-owner.ensures.later _ _ h2)))) (c.in_ok-body.ensures.stands _ (c.in_ok-together.ensures.stands _ _ (c.in_ok-owned.ensures.stands _ _ _ (c.in_ok-owner.ensures.later _ _ h0) (c.in_ok-owner.ensures.stands _ h1) (c.in_ok-owner.ensures.later _ _ h2)) (all_later c.in_ok-owned.ensures.later (all_later c.in_ok-owner.ensures.later h3))))

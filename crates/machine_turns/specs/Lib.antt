@@ -1,0 +1,4 @@
+pub mod Frames
+pub mod RunsOut
+pub mod Scenes
+pub mod Turns
