@@ -1,31 +1,13 @@
 -- Shapes, as they are collected.
-use Rattle.std.proofs.Common.{◌≡◌, ℕ, ◌+◌, ◌<◌, Bool, true, false, ◌||◌, if◌then◌else◌, List, [], ◌∷◌, ◌++◌, length, drop, get_or, map, reverse, refl, sym, ap, ◌∙◌, append_assoc}
+use Rattle.std.proofs.Common.{◌≡◌, Bool, true, false, ◌||◌, if◌then◌else◌, List, [], ◌∷◌, ◌++◌, map, reverse, refl, sym, ap, ◌∙◌, append_assoc}
 use Rattle.std.specs.List.{list_any}
 use Rattle.std.proofs.Math.Bool.{or_assoc, or_comm}
 use Rattle.std.proofs.lemmas.List.{reverse-append, map-append}
-use Rattle.method.specs.declared.program.Spec as s
 use Rattle.method.specs.declared.program.Shape as m
-use Rattle.typed_program.specs.Trees as t
-use Rattle.typed_program.specs.Trees.{Spec, Specs, Shape, Stop, With}
-use Rattle.typed_program.specs.Shapes.{Sorts, shapes_in, conjunct_shapes, same_shape, first_ones}
-use Rattle.typed_program.specs.Views.{spec, in_row, shape}
-use Rattle.elab_shapes.specs.Conjuncts.{own_shape, with_new}
-use Rattle.elab_shapes.proofs.Rows.{drop_at}
-
-module _ (h : Sorts) where
-  conjuncts_more : (x : Spec) (xs : Specs) → conjunct_shapes h (With x xs) ≡ (own_shape h x ++ shapes_in h x) ++ conjunct_shapes h xs
-  conjuncts_more (t.SLists x) xs = refl
-  conjuncts_more _ xs = refl
-
-  -- a conjunct's shape and those in it
-  pub conjunct_added : (xs : List s.Spec) (i : ℕ) (y : s.Spec) → i < length xs → y ≡ get_or xs i y → (old middle new total : List Shape) → middle ≡ old ++ own_shape h (spec y) → new ≡ middle ++ shapes_in h (spec y)
-      → old ++ conjunct_shapes h (in_row (drop i xs)) ≡ total → new ++ conjunct_shapes h (in_row (drop (i + 1) xs)) ≡ total
-  conjunct_added xs i y lt is old middle new total e f g =
-      let rest = conjunct_shapes h (in_row (drop (i + 1) xs)) in
-      let own = own_shape h (spec y) in
-      let inner = shapes_in h (spec y) in
-      ap (λ ns. ns ++ rest) (f ∙ (ap (λ ms. ms ++ inner) e ∙ append_assoc old own inner)) ∙ (append_assoc old (own ++ inner) rest
-      ∙ (ap (λ ns. old ++ ns) (sym (ap (λ zs. conjunct_shapes h (in_row zs)) (drop_at xs i y lt is) ∙ conjuncts_more (spec y) (in_row (drop (i + 1) xs)))) ∙ g))
+use Rattle.typed_program.specs.Trees.{Shape}
+use Rattle.typed_program.specs.Shapes.{same_shape, first_ones}
+use Rattle.typed_program.specs.Views.{shape}
+use Rattle.elab_shapes.specs.Conjuncts.{with_new}
 
 -- ---- each shape once
 

@@ -1,5 +1,6 @@
 pub mod Rows
 pub mod Alike
-pub mod Holed
+pub mod ByParts
 pub mod Numbering
 pub mod Collecting
+pub mod PartCounts

@@ -1,2 +1,5 @@
+pub mod Parts
+pub mod RowForms
+pub mod Forms
 pub mod Conjuncts
 pub mod Views

@@ -5,8 +5,9 @@ ghost use Rattle.std.specs.List.{list_any};
 ghost use Rattle.typed_program.specs.Shapes as spec;
 ghost use Rattle.typed_program.specs.Views as seen;
 ghost use Rattle.elab_shapes.specs.Conjuncts.{own_shape, with_new};
-ghost use Rattle.elab_shapes.specs.Views.{sorts as sorts_seen};
+ghost use Rattle.elab_shapes.specs.Views.{part as part_seen, sorts as sorts_seen};
 
+use crate::parts::{Part, count, part_at};
 use crate::same::same_shape;
 use crate::shapes::shape;
 use crate::sorts::Sorts;
@@ -27,24 +28,23 @@ fn add_shape(
     Ok(())
 }
 
-/// Appends the shape of a conjunct; `o->\closed` has none.
+/// Appends the shape of a part that is a conjunct.
 fn add_own_shape(
     alloc: Global,
     sorts: &Sorts,
-    x: &Spec,
+    one: Part<'_>,
     so_far: &mut Vec<Shape>,
 ) -> Result<(), AllocError>
-    ensures { OnOk result (map seen.shape so_far.new.items ≡ map seen.shape so_far.old.items ++ own_shape (sorts_seen sorts.now) (seen.spec x.now)) }
+    ensures { OnOk result (map seen.shape so_far.new.items ≡ map seen.shape so_far.old.items ++ own_shape (sorts_seen sorts.now) (part_seen one.entry)) }
 {
-    match x {
-        Spec::Lists(_) => Ok(()),
-        _ => add_shape(alloc, sorts, x, so_far),
+    if one.is_conjunct {
+        return add_shape(alloc, sorts, one.spec, so_far);
     }
+    Ok(())
 }
 
-/// Appends the shapes of the conjuncts in an expression.
+/// Appends the shapes of the conjuncts in an expression, each before those in it.
 #[cycle(add_shapes)]
-#[tactic(auto, using(std::proofs::lemmas::List::append_assoc))]
 pub fn add_shapes(
     alloc: Global,
     sorts: &Sorts,
@@ -53,90 +53,10 @@ pub fn add_shapes(
 ) -> Result<(), AllocError>
     ensures { OnOk result (map seen.shape so_far.new.items ≡ map seen.shape so_far.old.items ++ spec.shapes_in (sorts_seen sorts.now) (seen.spec x.now)) }
 {
-    match x {
-        Spec::Number(_)
-        | Spec::Truth(_)
-        | Spec::Null
-        | Spec::Variable(_)
-        | Spec::Bound(_)
-        | Spec::This
-        | Spec::Me
-        | Spec::Result
-        | Spec::Has(_) => Ok(()),
-        Spec::Field(x, _)
-        | Spec::Closed(x)
-        | Spec::Owner(x)
-        | Spec::ClaimCount(x)
-        | Spec::Not(x)
-        | Spec::Negate(x)
-        | Spec::Old(x)
-        | Spec::Unchanged(x)
-        | Spec::Wrapped(x)
-        | Spec::Wrapped0(x)
-        | Spec::Mutable(x)
-        | Spec::Fresh(x)
-        | Spec::Lists(x) => add_shapes(alloc, sorts, x, so_far),
-        Spec::Member(x, y)
-        | Spec::Arithmetic(_, x, y)
-        | Spec::Compare(_, x, y)
-        | Spec::And(x, y)
-        | Spec::Or(x, y)
-        | Spec::Implies(x, y)
-        | Spec::Iff(x, y)
-        | Spec::ClaimsObject(x, y)
-        | Spec::ForAll(_, _, x, y) => {
-            add_shapes(alloc, sorts, x, so_far)?;
-            add_shapes(alloc, sorts, y, so_far)
-        }
-        Spec::Choose(x, y, z) => {
-            add_shapes(alloc, sorts, x, so_far)?;
-            add_shapes(alloc, sorts, y, so_far)?;
-            add_shapes(alloc, sorts, z, so_far)
-        }
-        Spec::Claims(x, xs) => {
-            add_shapes(alloc, sorts, x, so_far)?;
-            add_conjuncts(alloc, sorts, xs, so_far)
-        }
-        Spec::Exists(_, _, x, xs) => {
-            add_shapes(alloc, sorts, x, so_far)?;
-            add_all(alloc, sorts, xs, so_far)
-        }
-        Spec::ClaimsOnly(_, x, xs) => {
-            add_shapes(alloc, sorts, x, so_far)?;
-            add_all(alloc, sorts, xs, so_far)
-        }
-    }
-}
-
-/// Appends the shapes of the conjuncts in several expressions.
-#[cycle(add_shapes)]
-fn add_all(
-    alloc: Global,
-    sorts: &Sorts,
-    xs: &[Spec],
-    so_far: &mut Vec<Shape>,
-) -> Result<(), AllocError>
-    ensures { OnOk result (map seen.shape so_far.new.items ≡ map seen.shape so_far.old.items ++ spec.all_shapes (sorts_seen sorts.now) (seen.in_row xs.now)) }
-{
-    for x in xs {
-        add_shapes(alloc, sorts, x, so_far)?;
-    }
-    Ok(())
-}
-
-/// Appends the shapes of the conjuncts of `\claims`, each before those in it.
-#[cycle(add_shapes)]
-fn add_conjuncts(
-    alloc: Global,
-    sorts: &Sorts,
-    xs: &[Spec],
-    so_far: &mut Vec<Shape>,
-) -> Result<(), AllocError>
-    ensures { OnOk result (map seen.shape so_far.new.items ≡ map seen.shape so_far.old.items ++ spec.conjunct_shapes (sorts_seen sorts.now) (seen.in_row xs.now)) }
-{
-    for x in xs {
-        add_own_shape(alloc, sorts, x, so_far)?;
-        add_shapes(alloc, sorts, x, so_far)?;
+    for i in 0..count(x) {
+        let one = part_at(x, i);
+        add_own_shape(alloc, sorts, one, so_far)?;
+        add_shapes(alloc, sorts, one.spec, so_far)?;
     }
     Ok(())
 }
@@ -169,6 +89,7 @@ fn add_new(one: Shape, found: &mut Vec<Shape>) -> Result<(), AllocError>
     ensures { OnOk result (map seen.shape found.new.items ≡ with_new (map seen.shape found.old.items) (seen.shape one)) }
 {
     if stands_among(&one, found) {
+        drop(one);
         return Ok(());
     }
     found.push(one)?;

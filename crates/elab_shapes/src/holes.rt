@@ -3,7 +3,9 @@
 ghost use Rattle.std.specs.Prelude.{◌≡◌, [], ◌∷◌, ◌++◌, IfOk, OnOk};
 ghost use Rattle.typed_program.specs.Shapes as spec;
 ghost use Rattle.typed_program.specs.Views as seen;
+ghost use Rattle.elab_shapes.specs.Conjuncts.{own_holes};
 
+use crate::parts::{count, part_at};
 use method::program::{Conjunct, Hole, Spec};
 use std::alloc::{AllocError, Global};
 
@@ -22,72 +24,30 @@ fn add_filled(x: &Conjunct, so_far: &mut Vec<Hole>) -> Result<(), AllocError>
     so_far.extend_from_slice(&x.holes)
 }
 
-/// Appends what fills the holes of an expression.
-#[cycle(holes)]
-#[tactic(auto, using(std::proofs::lemmas::List::append_assoc))]
-fn add_holes(x: &Spec, so_far: &mut Vec<Hole>) -> Result<(), AllocError>
-    ensures { OnOk result (so_far.new.items ≡ so_far.old.items ++ spec.holes (seen.spec x.now)) }
+/// Appends what fills an expression that is itself a hole, and what fills the holes of a conjunct that has a number.
+fn add_own(x: &Spec, so_far: &mut Vec<Hole>) -> Result<(), AllocError>
+    ensures { OnOk result (so_far.new.items ≡ so_far.old.items ++ own_holes (seen.spec x.now)) }
 {
     match x {
-        Spec::Number(_) | Spec::Truth(_) | Spec::Null => Ok(()),
         Spec::Variable(i) => add(Hole::OfVariable(*i), so_far),
         Spec::Bound(i) => add(Hole::OfBound(*i), so_far),
         Spec::This => add(Hole::OfThis, so_far),
         Spec::Me => add(Hole::OfMe, so_far),
         Spec::Result => add(Hole::OfResult, so_far),
-        Spec::Field(x, _)
-        | Spec::Closed(x)
-        | Spec::Owner(x)
-        | Spec::ClaimCount(x)
-        | Spec::Not(x)
-        | Spec::Negate(x)
-        | Spec::Old(x)
-        | Spec::Unchanged(x)
-        | Spec::Wrapped(x)
-        | Spec::Wrapped0(x)
-        | Spec::Mutable(x)
-        | Spec::Fresh(x)
-        | Spec::Lists(x) => add_holes(x, so_far),
-        Spec::Member(x, y)
-        | Spec::Arithmetic(_, x, y)
-        | Spec::Compare(_, x, y)
-        | Spec::And(x, y)
-        | Spec::Or(x, y)
-        | Spec::Implies(x, y)
-        | Spec::Iff(x, y)
-        | Spec::ClaimsObject(x, y)
-        | Spec::ForAll(_, _, x, y) => {
-            add_holes(x, so_far)?;
-            add_holes(y, so_far)
-        }
-        Spec::Choose(x, y, z) => {
-            add_holes(x, so_far)?;
-            add_holes(y, so_far)?;
-            add_holes(z, so_far)
-        }
-        Spec::Claims(x, xs) => {
-            add_holes(x, so_far)?;
-            add_all_holes(xs, so_far)
-        }
-        Spec::Exists(_, _, x, xs) => {
-            add_holes(x, so_far)?;
-            add_all_holes(xs, so_far)
-        }
-        Spec::ClaimsOnly(_, x, xs) => {
-            add_holes(x, so_far)?;
-            add_all_holes(xs, so_far)
-        }
         Spec::Has(conjunct) => add_filled(conjunct, so_far),
+        _ => Ok(()),
     }
 }
 
-/// Appends what fills the holes of several expressions.
+/// Appends what fills the holes of an expression.
 #[cycle(holes)]
-fn add_all_holes(xs: &[Spec], so_far: &mut Vec<Hole>) -> Result<(), AllocError>
-    ensures { OnOk result (so_far.new.items ≡ so_far.old.items ++ spec.all_holes (seen.in_row xs.now)) }
+fn add_holes(x: &Spec, so_far: &mut Vec<Hole>) -> Result<(), AllocError>
+    ensures { OnOk result (so_far.new.items ≡ so_far.old.items ++ spec.holes (seen.spec x.now)) }
 {
-    for x in xs {
-        add_holes(x, so_far)?;
+    add_own(x, so_far)?;
+    for i in 0..count(x) {
+        let one = part_at(x, i);
+        add_holes(one.spec, so_far)?;
     }
     Ok(())
 }

@@ -3,9 +3,10 @@
 #![tactic(auto)]
 
 pub mod collect;
-mod copies;
+mod forms;
 pub mod holes;
 pub mod numbered;
+mod parts;
 pub mod same;
 pub mod shapes;
 pub mod sorts;

@@ -3,7 +3,9 @@
 ghost use Rattle.std.specs.Prelude.{◌≡◌, ◌==◌, nat_eq};
 ghost use Rattle.typed_program.specs.Shapes as spec;
 ghost use Rattle.typed_program.specs.Views as seen;
+ghost use Rattle.elab_shapes.specs.Forms as forms;
 
+use crate::parts::{count, part_at};
 use method::program::{Comparison, Operator, Shape, Sort, Spec};
 
 /// Whether two operators are one.
@@ -48,114 +50,96 @@ fn same_sorts(xs: &[Sort], ys: &[Sort]) -> bool
     xs == ys
 }
 
-/// Whether two conjuncts with their holes are one tree. Quantifiers and `\claims_only` stand in none, nor do conjuncts
-/// that are numbered already.
-#[cycle(same)]
-fn same(x: &Spec, y: &Spec) -> bool
-    ensures { result ≡ spec.same (seen.spec x.now) (seen.spec y.now) }
+/// The number of the form of a conjunct with its holes; 0 of a form that stands in none. Quantifiers and
+/// `\claims_only` stand in none, nor do conjuncts that are numbered already.
+fn form(x: &Spec) -> u8
+    ensures { result ≡ forms.form (seen.spec x.now) }
+{
+    match x {
+        Spec::Number(_) => 1,
+        Spec::Truth(_) => 2,
+        Spec::Null => 3,
+        Spec::Variable(_) => 4,
+        Spec::Field(_, _) => 5,
+        Spec::Closed(_) => 6,
+        Spec::Owner(_) => 7,
+        Spec::ClaimCount(_) => 8,
+        Spec::Member(_, _) => 9,
+        Spec::Not(_) => 10,
+        Spec::Negate(_) => 11,
+        Spec::Arithmetic(_, _, _) => 12,
+        Spec::Compare(_, _, _) => 13,
+        Spec::And(_, _) => 14,
+        Spec::Or(_, _) => 15,
+        Spec::Implies(_, _) => 16,
+        Spec::Iff(_, _) => 17,
+        Spec::Choose(_, _, _) => 18,
+        Spec::ClaimsObject(_, _) => 19,
+        Spec::Claims(_, _) => 20,
+        Spec::Lists(_) => 21,
+        Spec::Bound(_) | Spec::This | Spec::Me | Spec::Result => 0,
+        Spec::Old(_) | Spec::Unchanged(_) | Spec::Wrapped(_) | Spec::Wrapped0(_) => 0,
+        Spec::Mutable(_) | Spec::Fresh(_) | Spec::Has(_) => 0,
+        Spec::ForAll(_, _, _, _) | Spec::Exists(_, _, _, _) | Spec::ClaimsOnly(_, _, _) => 0,
+    }
+}
+
+/// Whether two of one form have the same number, field or operator, where they have one.
+fn same_detail(x: &Spec, y: &Spec) -> bool
+    ensures { result ≡ forms.same_detail (seen.spec x.now) (seen.spec y.now) }
 {
     match x {
         Spec::Number(x) => match y {
             Spec::Number(y) => same_number(*x, *y),
-            _ => false,
+            _ => true,
         },
         Spec::Truth(x) => match y {
             Spec::Truth(y) => same_truth(*x, *y),
-            _ => false,
-        },
-        Spec::Null => match y {
-            Spec::Null => true,
-            _ => false,
+            _ => true,
         },
         Spec::Variable(i) => match y {
             Spec::Variable(j) => *i == *j,
-            _ => false,
+            _ => true,
         },
-        Spec::Field(x, i) => match y {
-            Spec::Field(y, j) => *i == *j && same(x, y),
-            _ => false,
+        Spec::Field(_, i) => match y {
+            Spec::Field(_, j) => *i == *j,
+            _ => true,
         },
-        Spec::Closed(x) => match y {
-            Spec::Closed(y) => same(x, y),
-            _ => false,
+        Spec::Arithmetic(o, _, _) => match y {
+            Spec::Arithmetic(r, _, _) => same_operator(*o, *r),
+            _ => true,
         },
-        Spec::Owner(x) => match y {
-            Spec::Owner(y) => same(x, y),
-            _ => false,
+        Spec::Compare(o, _, _) => match y {
+            Spec::Compare(r, _, _) => same_comparison(*o, *r),
+            _ => true,
         },
-        Spec::ClaimCount(x) => match y {
-            Spec::ClaimCount(y) => same(x, y),
-            _ => false,
-        },
-        Spec::Member(x, u) => match y {
-            Spec::Member(y, v) => same(x, y) && same(u, v),
-            _ => false,
-        },
-        Spec::Not(x) => match y {
-            Spec::Not(y) => same(x, y),
-            _ => false,
-        },
-        Spec::Negate(x) => match y {
-            Spec::Negate(y) => same(x, y),
-            _ => false,
-        },
-        Spec::Arithmetic(o, x, u) => match y {
-            Spec::Arithmetic(r, y, v) => same_operator(*o, *r) && same(x, y) && same(u, v),
-            _ => false,
-        },
-        Spec::Compare(o, x, u) => match y {
-            Spec::Compare(r, y, v) => same_comparison(*o, *r) && same(x, y) && same(u, v),
-            _ => false,
-        },
-        Spec::And(x, u) => match y {
-            Spec::And(y, v) => same(x, y) && same(u, v),
-            _ => false,
-        },
-        Spec::Or(x, u) => match y {
-            Spec::Or(y, v) => same(x, y) && same(u, v),
-            _ => false,
-        },
-        Spec::Implies(x, u) => match y {
-            Spec::Implies(y, v) => same(x, y) && same(u, v),
-            _ => false,
-        },
-        Spec::Iff(x, u) => match y {
-            Spec::Iff(y, v) => same(x, y) && same(u, v),
-            _ => false,
-        },
-        Spec::Choose(x, u, w) => match y {
-            Spec::Choose(y, v, z) => same(x, y) && same(u, v) && same(w, z),
-            _ => false,
-        },
-        Spec::ClaimsObject(x, u) => match y {
-            Spec::ClaimsObject(y, v) => same(x, y) && same(u, v),
-            _ => false,
-        },
-        Spec::Claims(x, us) => match y {
-            Spec::Claims(y, vs) => same(x, y) && all_same(us, vs),
-            _ => false,
-        },
-        Spec::Lists(x) => match y {
-            Spec::Lists(y) => same(x, y),
-            _ => false,
-        },
-        Spec::Bound(_) | Spec::This | Spec::Me | Spec::Result => false,
-        Spec::Old(_) | Spec::Unchanged(_) | Spec::Wrapped(_) | Spec::Wrapped0(_) => false,
-        Spec::Mutable(_) | Spec::Fresh(_) | Spec::Has(_) => false,
-        Spec::ForAll(_, _, _, _) | Spec::Exists(_, _, _, _) | Spec::ClaimsOnly(_, _, _) => false,
+        _ => true,
     }
 }
 
-/// Whether the conjuncts of two rows are one tree each.
-#[cycle(same)]
-fn all_same(xs: &[Spec], ys: &[Spec]) -> bool
-    ensures { result ≡ spec.all_same (seen.in_row xs.now) (seen.in_row ys.now) }
+/// Whether two are of one form that stands in conjuncts, with as many parts.
+fn same_form(x: &Spec, y: &Spec) -> bool
+    ensures { result ≡ forms.same_form (seen.spec x.now) (seen.spec y.now) }
 {
-    if xs.len() != ys.len() {
+    let number = form(x);
+    number != 0 && number == form(y) && count(x) == count(y)
+}
+
+/// Whether two conjuncts with their holes are one tree.
+#[cycle(same)]
+fn same(x: &Spec, y: &Spec) -> bool
+    ensures { result ≡ spec.same (seen.spec x.now) (seen.spec y.now) }
+{
+    if !same_form(x, y) {
         return false;
     }
-    for (i, x) in xs.iter().enumerate() {
-        if !same(x, &ys[i]) {
+    if !same_detail(x, y) {
+        return false;
+    }
+    for i in 0..count(x) {
+        let one = part_at(x, i);
+        let other = part_at(y, i);
+        if !same(one.spec, other.spec) {
             return false;
         }
     }

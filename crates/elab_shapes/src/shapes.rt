@@ -3,10 +3,12 @@
 ghost use Rattle.std.specs.Prelude.{◌≡◌, ◌+◌, length, map, IfOk};
 ghost use Rattle.typed_program.specs.Shapes as spec;
 ghost use Rattle.typed_program.specs.Views as seen;
+ghost use Rattle.elab_shapes.specs.Parts as view;
 ghost use Rattle.elab_shapes.specs.Views.{sorts as sorts_seen};
 
-use crate::copies::{claims_of, claims_only_of, copied, exists_of};
+use crate::forms::{copied, with_parts};
 use crate::holes::holes;
+use crate::parts::{count, part_at};
 use crate::sorts::{Sorts, sort_of};
 use method::program::{Conjunct, Hole, Shape, Sort, Spec};
 use std::alloc::{AllocError, Global};
@@ -14,14 +16,7 @@ use std::alloc::{AllocError, Global};
 /// An expression with holes, and the number of the next hole.
 #[derive(Drop)]
 struct WithHoles {
-    spec: Box<Spec>,
-    next: u32,
-}
-
-/// RowWithHoles expressions with holes, and the number of the next hole.
-#[derive(Drop)]
-struct RowWithHoles {
-    specs: Vec<Spec>,
+    spec: Spec,
     next: u32,
 }
 
@@ -38,185 +33,76 @@ fn plus(number: u32, count: usize) -> Result<u32, AllocError>
     }
 }
 
-/// An expression with holes on the heap.
-fn boxed(alloc: Global, whole: Spec, next: u32) -> Result<WithHoles, AllocError>
-    ensures spec { IfOk result (λ o. o.spec.value ≡ whole) }
-    ensures next { IfOk result (λ o. o.next ≡ next) }
-{
-    let held = Box::new(alloc, whole)?;
-    Ok(WithHoles { spec: held, next })
-}
-
 /// A hole.
-fn hole(alloc: Global, number: u32) -> Result<WithHoles, AllocError>
-    ensures spec { IfOk result (λ o. o.spec.value ≡ Spec.Variable number) }
+fn hole(number: u32) -> Result<WithHoles, AllocError>
+    ensures spec { IfOk result (λ o. o.spec ≡ Spec.Variable number) }
     ensures next { IfOk result (λ o. o.next ≡ number + 1) }
 {
     let next = plus(number, 1)?;
-    boxed(alloc, Spec::Variable(number), next)
+    Ok(WithHoles {
+        spec: Spec::Variable(number),
+        next,
+    })
 }
 
 /// A conjunct that has a number, in which holes aren't opened.
-fn kept(alloc: Global, next: u32, x: &Conjunct) -> Result<WithHoles, AllocError>
-    ensures spec { IfOk result (λ o. seen.spec o.spec.value ≡ seen.spec (Spec.Has x.now)) }
+fn kept(next: u32, x: &Conjunct) -> Result<WithHoles, AllocError>
+    ensures spec { IfOk result (λ o. seen.spec o.spec ≡ seen.spec (Spec.Has x.now)) }
     ensures next { IfOk result (λ o. o.next ≡ next + length x.now.holes.items) }
 {
     let following = plus(next, x.holes.len())?;
     let conjunct = copied(x)?;
-    boxed(alloc, Spec::Has(conjunct), following)
+    Ok(WithHoles {
+        spec: Spec::Has(conjunct),
+        next: following,
+    })
+}
+
+/// An expression without parts, opened.
+fn opened_leaf(next: u32, x: &Spec) -> Result<WithHoles, AllocError>
+    requires { length (view.parts (seen.spec x.now)) ≡ 0 }
+    ensures spec { IfOk result (λ o. seen.spec o.spec ≡ spec.opened next (seen.spec x.now)) }
+    ensures next { IfOk result (λ o. o.next ≡ next + spec.size (seen.spec x.now)) }
+{
+    match x {
+        Spec::Number(number) => Ok(WithHoles {
+            spec: Spec::Number(*number),
+            next,
+        }),
+        Spec::Truth(holds) => Ok(WithHoles {
+            spec: Spec::Truth(*holds),
+            next,
+        }),
+        Spec::Null => Ok(WithHoles {
+            spec: Spec::Null,
+            next,
+        }),
+        Spec::Has(conjunct) => kept(next, conjunct),
+        _ => hole(next),
+    }
 }
 
 /// An expression with a hole in the place of each, of which the first has this number.
 #[cycle(opened)]
-#[tactic(auto, using(std::proofs::lemmas::List::append_assoc))]
 fn opened(alloc: Global, next: u32, x: &Spec) -> Result<WithHoles, AllocError>
-    ensures spec { IfOk result (λ o. seen.spec o.spec.value ≡ spec.opened next (seen.spec x.now)) }
+    ensures spec { IfOk result (λ o. seen.spec o.spec ≡ spec.opened next (seen.spec x.now)) }
     ensures next { IfOk result (λ o. o.next ≡ next + spec.size (seen.spec x.now)) }
 {
-    match x {
-        Spec::Number(number) => boxed(alloc, Spec::Number(*number), next),
-        Spec::Truth(holds) => boxed(alloc, Spec::Truth(*holds), next),
-        Spec::Null => boxed(alloc, Spec::Null, next),
-        Spec::Variable(_) | Spec::Bound(_) | Spec::This | Spec::Me | Spec::Result => hole(
-            alloc, next,
-        ),
-        Spec::Field(x, field) => {
-            let x = opened(alloc, next, x)?;
-            boxed(alloc, Spec::Field(x.spec, *field), x.next)
-        }
-        Spec::Closed(x) => {
-            let x = opened(alloc, next, x)?;
-            boxed(alloc, Spec::Closed(x.spec), x.next)
-        }
-        Spec::Owner(x) => {
-            let x = opened(alloc, next, x)?;
-            boxed(alloc, Spec::Owner(x.spec), x.next)
-        }
-        Spec::ClaimCount(x) => {
-            let x = opened(alloc, next, x)?;
-            boxed(alloc, Spec::ClaimCount(x.spec), x.next)
-        }
-        Spec::Member(x, y) => {
-            let x = opened(alloc, next, x)?;
-            let y = opened(alloc, x.next, y)?;
-            boxed(alloc, Spec::Member(x.spec, y.spec), y.next)
-        }
-        Spec::Not(x) => {
-            let x = opened(alloc, next, x)?;
-            boxed(alloc, Spec::Not(x.spec), x.next)
-        }
-        Spec::Negate(x) => {
-            let x = opened(alloc, next, x)?;
-            boxed(alloc, Spec::Negate(x.spec), x.next)
-        }
-        Spec::Arithmetic(operator, x, y) => {
-            let x = opened(alloc, next, x)?;
-            let y = opened(alloc, x.next, y)?;
-            boxed(alloc, Spec::Arithmetic(*operator, x.spec, y.spec), y.next)
-        }
-        Spec::Compare(comparison, x, y) => {
-            let x = opened(alloc, next, x)?;
-            let y = opened(alloc, x.next, y)?;
-            boxed(alloc, Spec::Compare(*comparison, x.spec, y.spec), y.next)
-        }
-        Spec::And(x, y) => {
-            let x = opened(alloc, next, x)?;
-            let y = opened(alloc, x.next, y)?;
-            boxed(alloc, Spec::And(x.spec, y.spec), y.next)
-        }
-        Spec::Or(x, y) => {
-            let x = opened(alloc, next, x)?;
-            let y = opened(alloc, x.next, y)?;
-            boxed(alloc, Spec::Or(x.spec, y.spec), y.next)
-        }
-        Spec::Implies(x, y) => {
-            let x = opened(alloc, next, x)?;
-            let y = opened(alloc, x.next, y)?;
-            boxed(alloc, Spec::Implies(x.spec, y.spec), y.next)
-        }
-        Spec::Iff(x, y) => {
-            let x = opened(alloc, next, x)?;
-            let y = opened(alloc, x.next, y)?;
-            boxed(alloc, Spec::Iff(x.spec, y.spec), y.next)
-        }
-        Spec::Choose(x, y, z) => {
-            let x = opened(alloc, next, x)?;
-            let y = opened(alloc, x.next, y)?;
-            let z = opened(alloc, y.next, z)?;
-            boxed(alloc, Spec::Choose(x.spec, y.spec, z.spec), z.next)
-        }
-        Spec::Old(x) => {
-            let x = opened(alloc, next, x)?;
-            boxed(alloc, Spec::Old(x.spec), x.next)
-        }
-        Spec::Unchanged(x) => {
-            let x = opened(alloc, next, x)?;
-            boxed(alloc, Spec::Unchanged(x.spec), x.next)
-        }
-        Spec::Wrapped(x) => {
-            let x = opened(alloc, next, x)?;
-            boxed(alloc, Spec::Wrapped(x.spec), x.next)
-        }
-        Spec::Wrapped0(x) => {
-            let x = opened(alloc, next, x)?;
-            boxed(alloc, Spec::Wrapped0(x.spec), x.next)
-        }
-        Spec::Mutable(x) => {
-            let x = opened(alloc, next, x)?;
-            boxed(alloc, Spec::Mutable(x.spec), x.next)
-        }
-        Spec::Fresh(x) => {
-            let x = opened(alloc, next, x)?;
-            boxed(alloc, Spec::Fresh(x.spec), x.next)
-        }
-        Spec::ClaimsObject(x, y) => {
-            let x = opened(alloc, next, x)?;
-            let y = opened(alloc, x.next, y)?;
-            boxed(alloc, Spec::ClaimsObject(x.spec, y.spec), y.next)
-        }
-        Spec::Claims(x, xs) => {
-            let x = opened(alloc, next, x)?;
-            let xs = all_opened(alloc, x.next, xs)?;
-            boxed(alloc, claims_of(x.spec, xs.specs), xs.next)
-        }
-        Spec::Lists(x) => {
-            let x = opened(alloc, next, x)?;
-            boxed(alloc, Spec::Lists(x.spec), x.next)
-        }
-        Spec::Has(conjunct) => kept(alloc, next, conjunct),
-        Spec::ForAll(number, ty, x, y) => {
-            let x = opened(alloc, next, x)?;
-            let y = opened(alloc, x.next, y)?;
-            boxed(alloc, Spec::ForAll(*number, *ty, x.spec, y.spec), y.next)
-        }
-        Spec::Exists(number, ty, x, xs) => {
-            let x = opened(alloc, next, x)?;
-            let xs = all_opened(alloc, x.next, xs)?;
-            boxed(alloc, exists_of(*number, *ty, x.spec, xs.specs), xs.next)
-        }
-        Spec::ClaimsOnly(number, x, xs) => {
-            let x = opened(alloc, next, x)?;
-            let xs = all_opened(alloc, x.next, xs)?;
-            boxed(alloc, claims_only_of(*number, x.spec, xs.specs), xs.next)
-        }
+    let number = count(x);
+    if number == 0 {
+        return opened_leaf(next, x);
     }
-}
-
-/// RowWithHoles expressions with a hole in the place of each, of which the first has this number.
-#[cycle(opened)]
-fn all_opened(alloc: Global, next: u32, xs: &[Spec]) -> Result<RowWithHoles, AllocError>
-    ensures specs { IfOk result (λ o. seen.in_row o.specs.items ≡ spec.all_opened next (seen.in_row xs.now)) }
-    ensures next { IfOk result (λ o. o.next ≡ next + length (spec.all_holes (seen.in_row xs.now))) }
-{
-    let mut specs = Vec::new(alloc);
+    let mut parts = Vec::new(alloc);
     let mut following = next;
-    for x in xs {
-        let one = opened(alloc, following, x)?;
-        specs.push(Box::into_inner(one.spec))?;
-        following = one.next;
+    for i in 0..number {
+        let one = part_at(x, i);
+        let done = opened(alloc, following, one.spec)?;
+        parts.push(done.spec)?;
+        following = done.next;
     }
-    Ok(RowWithHoles {
-        specs,
+    let whole = with_parts(alloc, x, parts)?;
+    Ok(WithHoles {
+        spec: whole,
         next: following,
     })
 }
@@ -241,6 +127,6 @@ pub fn shape(alloc: Global, sorts: &Sorts, x: &Spec) -> Result<Shape, AllocError
     let conjunct = opened(alloc, 0, x)?;
     Ok(Shape {
         holes: of_holes,
-        conjunct: Box::into_inner(conjunct.spec),
+        conjunct: conjunct.spec,
     })
 }

@@ -1,27 +1,25 @@
-use Rattle.std.proofs.Common.{map, ap}
+use Rattle.std.proofs.Common.{◌++◌, map, ap, ◌∙◌, arith, append_assoc}
 use Rattle.typed_program.specs.Shapes.{shapes_in}
-use Rattle.typed_program.specs.Views.{shape}
-use Rattle.elab_shapes.specs.Views.{sorts as sorts_seen}
-use Rattle.elab_shapes.proofs.Rows.{claims_of, exists_of, claims_only_of, grown}
-use Rattle.elab_shapes.proofs.Collecting.{conjunct_added}
+use Rattle.typed_program.specs.Views.{spec, shape}
+use Rattle.elab_shapes.specs.Parts.{parts}
+use Rattle.elab_shapes.specs.Conjuncts.{own_shape}
+use Rattle.elab_shapes.specs.Views.{part, sorts}
+use Rattle.elab_shapes.proofs.ByParts.{part_lower, part_shapes, shapes_by_parts, one_gathered, all_gathered}
 use Rattle.elab_shapes.proofs.collect.+add_shapes.Goals as goal
 
-pub add_shapes-returns-in_ok-add_shapes-in-Claims : goal.add_shapes-returns-in_ok-add_shapes-in-Claims
-add_shapes-returns-in_ok-add_shapes-in-Claims t c =
-    let s = c.in-Claims in
-    grown c.add_conjuncts.result _ _ _ _ _ _ c.in_ok-add_shapes-in-Claims.ensures (ap (shapes_in (sorts_seen c.args.sorts.now)) (claims_of c.args.x.now s.x s.xs c.deref-in-Claims.result.now c.deref-in-Claims-2.result.now s.is c.deref-in-Claims.ensures c.deref-in-Claims-2.ensures.value)) c.add_conjuncts.ensures
+pub add_shapes-requires : goal.add_shapes-requires
+add_shapes-requires t c = (omega (arith, c.decreases, part_lower (spec c.args.x.now) c.loop-i.i (part c.part_at-one.result) (omega (arith, c.loop-i-test.true, c.count-i-end.ensures)) c.part_at-one.ensures), tt)
 
-pub add_shapes-returns-in_ok-add_shapes-in-Exists : goal.add_shapes-returns-in_ok-add_shapes-in-Exists
-add_shapes-returns-in_ok-add_shapes-in-Exists t c =
-    let s = c.in-Exists in
-    grown c.add_all.result _ _ _ _ _ _ c.in_ok-add_shapes-in-Exists.ensures (ap (shapes_in (sorts_seen c.args.sorts.now)) (exists_of c.args.x.now s.field-0 s.field-1 s.x s.xs c.deref-in-Exists.result.now c.deref-in-Exists-2.result.now s.is c.deref-in-Exists.ensures c.deref-in-Exists-2.ensures.value)) c.add_all.ensures
+pub loop-i-init : goal.loop-i-init
+loop-i-init t c = ap (λ ns. map shape c.args.so_far.now.items ++ ns) (shapes_by_parts (sorts c.args.sorts.now) (spec c.args.x.now))
 
-pub add_shapes-returns-in_ok-add_shapes-in-ClaimsOnly : goal.add_shapes-returns-in_ok-add_shapes-in-ClaimsOnly
-add_shapes-returns-in_ok-add_shapes-in-ClaimsOnly t c =
-    let s = c.in-ClaimsOnly in
-    grown c.add_all-in-ClaimsOnly.result _ _ _ _ _ _ c.in_ok-add_shapes-in-ClaimsOnly.ensures (ap (shapes_in (sorts_seen c.args.sorts.now)) (claims_only_of c.args.x.now s.field-0 s.x s.xs c.deref-in-ClaimsOnly.result.now c.deref-in-ClaimsOnly-2.result.now s.is c.deref-in-ClaimsOnly.ensures c.deref-in-ClaimsOnly-2.ensures.value)) c.add_all-in-ClaimsOnly.ensures
+pub loop-i-preserved : goal.loop-i-preserved
+loop-i-preserved t c =
+    let here = sorts c.args.sorts.now in
+    let y = part c.part_at-one.result in
+    let old = map shape c.loop-i.so_far.items in
+    one_gathered (part_shapes here) (parts (spec c.args.x.now)) c.loop-i.i y (omega (arith, c.loop-i-test.true, c.count-i-end.ensures)) c.part_at-one.ensures old (map shape c.add_shapes.new.so_far.items) _
+    (c.in_ok-add_shapes.ensures ∙ (ap (λ ns. ns ++ shapes_in here y.spec) c.in_ok-add_own_shape.ensures ∙ append_assoc old (own_shape here y) (shapes_in here y.spec))) c.loop-i.invariant
 
-pub add_conjuncts-loop-x-preserved : goal.add_conjuncts-loop-x-preserved
-add_conjuncts-loop-x-preserved t c =
-    conjunct_added (sorts_seen c.args.sorts.now) c.args.xs.now c.loop-x.x-index c.x-item.result c.loop-x-test.true c.x-item.is (map shape c.loop-x.so_far.items) (map shape c.add_own_shape.new.so_far.items) (map shape c.add_shapes.new.so_far.items) _
-    c.in_ok-add_own_shape.ensures c.in_ok-add_shapes.ensures c.loop-x.invariant
+pub returns : goal.returns
+returns t c = all_gathered (part_shapes (sorts c.args.sorts.now)) (parts (spec c.args.x.now)) c.loop-i.i (omega (arith, c.count-i-end.ensures)) (map shape c.loop-i.so_far.items) _ c.loop-i.invariant

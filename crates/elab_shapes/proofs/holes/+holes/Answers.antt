@@ -1,19 +1,20 @@
-use Rattle.std.proofs.Common.{ap}
-use Rattle.typed_program.specs.Shapes.{holes}
-use Rattle.elab_shapes.proofs.Rows.{claims_of, exists_of, claims_only_of, grown}
+use Rattle.std.proofs.Common.{arith}
+use Rattle.typed_program.specs.Views.{spec}
+use Rattle.elab_shapes.specs.Parts.{parts}
+use Rattle.elab_shapes.specs.Views.{part}
+use Rattle.elab_shapes.proofs.ByParts.{part_lower, part_holes, holes_by_parts, start_gathered, one_gathered, all_gathered}
 use Rattle.elab_shapes.proofs.holes.+holes.Goals as goal
 
-pub add_holes-returns-in_ok-add_holes-in-Claims : goal.add_holes-returns-in_ok-add_holes-in-Claims
-add_holes-returns-in_ok-add_holes-in-Claims t c =
-    let s = c.in-Claims in
-    grown c.add_all_holes.result _ _ _ _ _ _ c.in_ok-add_holes-in-Claims.ensures (ap holes (claims_of c.args.x.now s.x s.xs c.deref-in-Claims.result.now c.deref-in-Claims-2.result.now s.is c.deref-in-Claims.ensures c.deref-in-Claims-2.ensures.value)) c.add_all_holes.ensures
+pub add_holes-requires : goal.add_holes-requires
+add_holes-requires t c = (omega (arith, c.decreases, part_lower (spec c.args.x.now) c.loop-i.i (part c.part_at-one.result) (omega (arith, c.loop-i-test.true, c.count-i-end.ensures)) c.part_at-one.ensures), tt)
 
-pub add_holes-returns-in_ok-add_holes-in-Exists : goal.add_holes-returns-in_ok-add_holes-in-Exists
-add_holes-returns-in_ok-add_holes-in-Exists t c =
-    let s = c.in-Exists in
-    grown c.add_all_holes-in-Exists.result _ _ _ _ _ _ c.in_ok-add_holes-in-Exists.ensures (ap holes (exists_of c.args.x.now s.field-0 s.field-1 s.x s.xs c.deref-in-Exists.result.now c.deref-in-Exists-2.result.now s.is c.deref-in-Exists.ensures c.deref-in-Exists-2.ensures.value)) c.add_all_holes-in-Exists.ensures
+pub loop-i-init : goal.loop-i-init
+loop-i-init t c = let x = spec c.args.x.now in start_gathered part_holes (parts x) c.args.so_far.now.items _ c.add_own.new.so_far.items _ c.in_ok-add_own.ensures (holes_by_parts x)
 
-pub add_holes-returns-in_ok-add_holes-in-ClaimsOnly : goal.add_holes-returns-in_ok-add_holes-in-ClaimsOnly
-add_holes-returns-in_ok-add_holes-in-ClaimsOnly t c =
-    let s = c.in-ClaimsOnly in
-    grown c.add_all_holes-in-ClaimsOnly.result _ _ _ _ _ _ c.in_ok-add_holes-in-ClaimsOnly.ensures (ap holes (claims_only_of c.args.x.now s.field-0 s.x s.xs c.deref-in-ClaimsOnly.result.now c.deref-in-ClaimsOnly-2.result.now s.is c.deref-in-ClaimsOnly.ensures c.deref-in-ClaimsOnly-2.ensures.value)) c.add_all_holes-in-ClaimsOnly.ensures
+pub loop-i-preserved : goal.loop-i-preserved
+loop-i-preserved t c =
+    one_gathered part_holes (parts (spec c.args.x.now)) c.loop-i.i (part c.part_at-one.result) (omega (arith, c.loop-i-test.true, c.count-i-end.ensures)) c.part_at-one.ensures c.loop-i.so_far.items c.add_holes.new.so_far.items _
+    c.in_ok-add_holes.ensures c.loop-i.invariant
+
+pub returns : goal.returns
+returns t c = all_gathered part_holes (parts (spec c.args.x.now)) c.loop-i.i (omega (arith, c.count-i-end.ensures)) c.loop-i.so_far.items _ c.loop-i.invariant

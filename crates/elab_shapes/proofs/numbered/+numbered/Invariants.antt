@@ -1,18 +1,18 @@
-use Rattle.std.proofs.Common.{◌≡◌, map, drop}
-use Rattle.typed_program.specs.Shapes as spec
+use Rattle.std.proofs.Common.{◌≡◌, ◌+◌, ◌++◌, map, drop}
 use Rattle.typed_program.specs.Views as seen
+use Rattle.elab_shapes.specs.Parts.{parts}
+use Rattle.elab_shapes.specs.Conjuncts.{numbered_part}
 use Rattle.elab_shapes.specs.Views.{sorts as sorts_seen}
-use Rattle.elab_shapes.proofs.Rows.{in_front}
+use Rattle.elab_shapes.proofs.ByParts.{height}
 use Rattle.elab_shapes.proofs.numbered.+numbered.Given as goal
 
-abbrev pub invariant-all_with_numbers-loop-x : goal.invariant-all_with_numbers-loop-x
-invariant-all_with_numbers-loop-x l =
-    let all = map seen.shape l.shapes in
-    let here = sorts_seen l.sorts in
-    in_front l.done.items (spec.all_numbered all here (seen.in_row (drop l.x-index l.xs))) ≡ spec.all_numbered all here (seen.in_row l.xs)
+abbrev pub decreases-numbered : goal.decreases-numbered
+decreases-numbered l = height (seen.spec l.x.now) + height (seen.spec l.x.now)
 
-abbrev pub invariant-conjuncts-loop-x : goal.invariant-conjuncts-loop-x
-invariant-conjuncts-loop-x l =
-    let all = map seen.shape l.shapes in
-    let here = sorts_seen l.sorts in
-    in_front l.done.items (spec.numbered_conjuncts all here (seen.in_row (drop l.x-index l.xs))) ≡ spec.numbered_conjuncts all here (seen.in_row l.xs)
+abbrev pub decreases-numbered_part : goal.decreases-numbered_part
+decreases-numbered_part l = height (seen.spec l.x.now) + height (seen.spec l.x.now) + 1
+
+abbrev pub invariant-numbered-loop-i : goal.invariant-numbered-loop-i
+invariant-numbered-loop-i l =
+    let one = numbered_part (map seen.shape l.shapes) (sorts_seen l.sorts) in
+    seen.specs l.parts.items ++ map one (drop l.i (parts (seen.spec l.x))) ≡ map one (parts (seen.spec l.x))

@@ -1,10 +1,13 @@
-use Rattle.std.proofs.Common.{◌≡◌, drop, length}
+use Rattle.std.proofs.Common.{◌≡◌, drop}
 use Rattle.typed_program.specs.Shapes as spec
 use Rattle.typed_program.specs.Views as seen
+use Rattle.elab_shapes.specs.Parts.{parts}
+use Rattle.elab_shapes.proofs.ByParts.{height}
+use Rattle.elab_shapes.proofs.Alike.{alike}
 use Rattle.elab_shapes.proofs.same.+same.Given as goal
 
-abbrev pub invariant-all_same-loop-i : goal.invariant-all_same-loop-i
-invariant-all_same-loop-i l = record {
-  left : spec.all_same (seen.in_row (drop l.i l.xs)) (seen.in_row (drop l.i l.ys)) ≡ spec.all_same (seen.in_row l.xs) (seen.in_row l.ys);
-  together : length l.xs ≡ length l.ys;
-}
+abbrev pub decreases-same : goal.decreases-same
+decreases-same l = height (seen.spec l.x.now)
+
+abbrev pub invariant-loop-i : goal.invariant-loop-i
+invariant-loop-i l = alike (drop l.i (parts (seen.spec l.x))) (drop l.i (parts (seen.spec l.y))) ≡ spec.same (seen.spec l.x) (seen.spec l.y)

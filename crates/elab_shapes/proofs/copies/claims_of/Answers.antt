@@ -1,5 +1,0 @@
-use Rattle.typed_program.proofs.Vectors.{claims}
-use Rattle.elab_shapes.proofs.copies.claims_of.Goals as goal
-
-pub returns : goal.returns
-returns c = claims c.args.claim c.args.conjuncts
