@@ -9,6 +9,7 @@ use Rattle.condition_meaning.specs.Promises.{ConditionsAreValid}
 use Rattle.c_types.specs.Typed.{IsProgramOf}
 use Rattle.tree_forms.proofs.FormLaw.{form_law}
 use Rattle.grain_law.proofs.Law.{safe_is_safe_in_fine_steps}
+use Rattle.race_law.proofs.Law.{safe_is_race_free}
 use Rattle.erasure_runs.proofs.Back.{safe_is_safe_plain}
 use Rattle.apart_law.proofs.Texts.{texts_storing_once_are_apart}
 use Rattle.typed_conditions.specs.Laws.{SourcesAreAnnotated, SourcesAreSafe}
@@ -62,7 +63,7 @@ module _ (m : Map) (name : List ℕ) (p : Program) (few : length (conditions p) 
         ),
       ))
 
--- a source whose program has valid conditions is safe, in fine steps too
+-- a source whose program has valid conditions is safe, in fine steps too, and has no data race
 pub safe_source : (source : List ℕ) (p : Program) → IsProgramOf source p → SourcesAreAnnotated → SourcesAreSafe → (IsLayered (language_of p) → IsFaithful (language_of p) → ConditionsAreValid p) → IsSafeSource source
 safe_source source p is annotated safe valid =
     let reads = is.reads in
@@ -74,6 +75,7 @@ safe_source source p is annotated safe valid =
       reads = is;
       safe = at_once;
       in_fine_steps = safe_is_safe_in_fine_steps p is.well_formed at_once;
+      without_races = safe_is_race_free p is.well_formed at_once;
       without_annotations = λ once. safe_is_safe_plain p is.well_formed (texts_storing_once_are_apart source reads.items reads.end reads.text once reads.typed p reads.tables_are) at_once;
     }
 

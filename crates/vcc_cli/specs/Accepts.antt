@@ -9,6 +9,7 @@ use Rattle.c_types.specs.Typed.{IsProgramOf}
 use Rattle.method.specs.declared.program.Program.{Program}
 use Rattle.method.specs.Machine.{Safe}
 use Rattle.grain_law.specs.FineSteps.{SafeInFineSteps}
+use Rattle.race_law.specs.Races.{NoDataRaces}
 use Rattle.object_types.specs.Sets.{every}
 use Rattle.apart_law.specs.Premises.{item_stores_once}
 use Rattle.plain_machine.specs.SafePlain.{SafePlain}
@@ -54,12 +55,14 @@ pub record IsCheckOf (m : Map) (words : List (List ℕ)) (source cert : List ℕ
 
 -- the bytes read as a program that is safe: in every interleaving, from every good heap that meets main's precondition, no step faults, no claimed object is opened, and each step keeps the invariants
 -- Its steps are whole statements. It is safe in fine steps too, where other threads also act between two reads of one statement, and between a read and the use of its value.
+-- It has no data race: in no interleaving two threads may access one place next, one of them to write, but by two atomic blocks on a volatile field.
 -- Nor does a step fault of the program that a C compiler sees, without its annotations, where each atomic block holds at most one assignment of code.
 pub record IsSafeSource (source : List ℕ) : Type 0 where
   pub program : Program
   pub reads : IsProgramOf source program
   pub safe : Safe program
   pub in_fine_steps : SafeInFineSteps program
+  pub without_races : NoDataRaces program
   pub without_annotations : IsTrue (every item_stores_once reads.reads.items) → SafePlain program
 
 -- the name holds a source that is safe

@@ -1,0 +1,4 @@
+pub mod Accesses
+pub mod Races
+pub mod Laws
+pub mod Rows

@@ -1,0 +1,4 @@
+//! A safe program has no data race.
+#![tactic(auto)]
+
+pub mod laws;
