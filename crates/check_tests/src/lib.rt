@@ -1,10 +1,7 @@
-//! Tests of the commands `check`, `verify` and `upgrade`, apart from its crate: a crate with tests is proved twice.
+//! Tests of what commands print where calls fail or memory is wanted, and of labels and conditions, apart from their crates: a crate
+//! with tests is proved twice. What they print otherwise stands in tests/.
 #![tactic(auto)]
 
-#[cfg(test)]
-mod approvals;
-#[cfg(test)]
-mod certificates;
 #[cfg(test)]
 mod commands;
 #[cfg(test)]
@@ -16,14 +13,10 @@ mod labels;
 #[cfg(test)]
 mod rows;
 #[cfg(test)]
+mod runs;
+#[cfg(test)]
 mod searches;
 #[cfg(test)]
-mod sources;
-#[cfg(test)]
-mod steps;
-#[cfg(test)]
 mod translation;
-#[cfg(test)]
-mod typing;
 #[cfg(test)]
 mod upgrades;

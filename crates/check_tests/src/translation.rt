@@ -1,6 +1,6 @@
 //! Sources, each with the terms of its conditions or its refusal. The expected texts were made by another program, written
 //! from the grammar, the translation and the numbering of docs/LANGUAGE.md and docs/CONDITIONS.md alone; those of the two
-//! sources whose certificates stand in `commands` and `certificates` by hand.
+//! sources whose certificates stand in tests/commands.rows and tests/certificates.rows by hand.
 
 use crate::condition_lists::of_program;
 use crate::rows::is;

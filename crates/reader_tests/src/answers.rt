@@ -1,50 +1,37 @@
-//! What is read at the front of texts.
+//! What is read of a text, as the rows of all tables say it.
 
 use crate::rows::is;
-use Answer::{Following, TooDeep, Unexpected, UnknownForm};
+use Answer::{Following, High, TooDeep, Unexpected, UnknownForm};
 use c_source::fault::SourceFault;
 use c_syntax::token::Span;
 use std::process::Abort;
 
-/// How many tokens are read, or the fault, with its column in the first line.
+/// How high it is, with a count that its table explains; or the first fault.
+pub type Told = Result<(u32, usize), SourceFault>;
+
+/// The same in a row: a fault with its column in the first line.
 #[derive(Clone, Copy)]
 pub enum Answer {
+    High(u32, usize),
+    /// the place behind what is read, of which no height is told
     Following(usize),
     Unexpected(u32),
     UnknownForm(u32),
     TooDeep(u32),
 }
 
-/// The place behind what is read, or the fault.
-pub fn end_of<T: Drop>(read: Result<(T, usize), SourceFault>) -> Result<usize, SourceFault> {
-    match read {
-        Ok((_, following)) => Ok(following),
-        Err(fault) => Err(fault),
-    }
-}
-
-/// What the answer says of the reading.
-fn meaning(answer: Answer) -> Result<usize, SourceFault> {
+/// What the answer says.
+fn meaning(answer: Answer) -> Told {
     match answer {
-        Following(following) => Ok(following),
+        High(height, count) => Ok((height, count)),
+        Following(count) => Ok((0, count)),
         Unexpected(column) => Err(SourceFault::Unexpected(Span { line: 1, column })),
         UnknownForm(column) => Err(SourceFault::UnknownForm(Span { line: 1, column })),
         TooDeep(column) => Err(SourceFault::TooDeep(Span { line: 1, column })),
     }
 }
 
-/// What is read of the text from a token on, with so many levels around it, is the row's answer.
-pub fn answers(
-    rt: &impl Abort,
-    got: Result<usize, SourceFault>,
-    want: Answer,
-    text: &str,
-    at: usize,
-    above: u32,
-) {
-    is(
-        rt,
-        &(text, at, above, got),
-        &(text, at, above, meaning(want)),
-    );
+/// What is read of the text is the row's answer; the number, which a message shows too, is of the row.
+pub fn answers(rt: &impl Abort, text: &str, number: u32, got: Told, want: Answer) {
+    is(rt, &(text, number, got), &(text, number, meaning(want)));
 }

@@ -1,4 +1,4 @@
-//! Certificates that are read, in one piece and in many, and faults with their lines.
+//! Certificates that are read, in one piece and in many. Texts that are none stand with their faults in tests/.
 
 use crate::text::{Text, check};
 use cert_format::certificate::{Certificate, Refutation, Step};
@@ -131,476 +131,39 @@ fn single_bytes(alloc: Global, source: &[u8]) -> Result<Vec<&[u8]>, AllocError> 
     Ok(pieces)
 }
 
-/// The texts are refused so, read whole and byte by byte.
-fn refuse(
-    rt: &impl Abort,
-    alloc: Global,
-    front: &str,
-    rows: &[(&str, &str)],
-    behind: &str,
-) -> Result<(), AllocError> {
-    for (line, want) in rows {
-        let text = format!(in alloc; "{front}{line}{behind}")?;
-        let source = text.as_bytes();
-        let whole = decoded(alloc, source)?;
-        check(rt, whole.as_str(), *want, *line);
-        let pieces = single_bytes(alloc, source)?;
-        let cut = fed(alloc, &pieces)?;
-        check(rt, cut.as_str(), *want, *line);
-    }
+/// The text is refused so, read whole and byte by byte.
+fn refuse(rt: &impl Abort, alloc: Global, text: &str, want: &str) -> Result<(), AllocError> {
+    let source = text.as_bytes();
+    let whole = decoded(alloc, source)?;
+    check(rt, whole.as_str(), want, text);
+    let pieces = single_bytes(alloc, source)?;
+    let cut = fed(alloc, &pieces)?;
+    check(rt, cut.as_str(), want, text);
     Ok(())
 }
 
-/// The first line is one of two.
-const FIRST_LINES: &[(&str, &str)] = &[
-    ("vcc-cert x", "line 1: BadLine"),
-    ("vcc-cert 01", "line 1: BadLine"),
-    ("vcc-cert 3", "line 1: BadLine"),
-    ("vcc-cert -1", "line 1: BadLine"),
-    ("vcc-cert", "line 1: BadLine"),
-    ("vcc-cert ", "line 1: BadLine"),
-    ("vcc-cert 1 ", "line 1: BadLine"),
-    ("vcc-cert  1", "line 1: BadLine"),
-    (" vcc-cert 1", "line 1: BadLine"),
-    ("vcc-cert 1 1", "line 1: BadLine"),
-    ("Vcc-cert 1", "line 1: BadLine"),
-    ("", "line 1: BadLine"),
-    ("end", "line 1: BadLine"),
+/// One text with each fault.
+const REFUSED: &[(&str, &str)] = &[
+    ("vcc-cert 3\nconditions 0\nend\n", "line 1: BadLine"),
+    ("vcc-cert 1\nconditions 007\nend\n", "line 2: BadNumber"),
     (
-        "vcc-cert 20000000000000000000000000000000000000000",
-        "line 1: BadLine",
-    ),
-    ("vcc-cert 1\r", "line 1: BadLine"),
-];
-
-#[test]
-fn refuses_first_lines(rt: HostRuntime) -> Result<(), AllocError> {
-    refuse(&rt, rt.alloc(), "", FIRST_LINES, "\nconditions 0\nend\n")
-}
-
-/// The line that counts the conditions, in version 1.
-const CONDITION_COUNTS: &[(&str, &str)] = &[
-    ("conditions 007", "line 2: BadNumber"),
-    ("conditions x", "line 2: BadNumber"),
-    ("conditions -1", "line 2: BadNumber"),
-    ("conditions -0", "line 2: BadNumber"),
-    ("conditions +1", "line 2: BadNumber"),
-    ("conditions ", "line 2: BadNumber"),
-    ("conditions  0", "line 2: BadNumber"),
-    (
-        "conditions 170141183460469231731687303715884105728",
-        "line 2: BadNumber",
-    ),
-    ("conditions 00 x", "line 2: BadNumber"),
-    (
-        "conditions 170141183460469231731687303715884105727",
-        "line 2: CountOver",
-    ),
-    ("conditions 20001", "line 2: CountOver"),
-    ("conditions 20001 x", "line 2: CountOver"),
-    ("conditions", "line 2: BadLine"),
-    ("conditions 0 ", "line 2: BadLine"),
-    ("conditions 0 0", "line 2: BadLine"),
-    ("Conditions 0", "line 2: BadLine"),
-    ("lemmas 0", "line 2: BadLine"),
-    ("condition 0 0 0", "line 2: BadLine"),
-    ("end", "line 2: BadLine"),
-    ("", "line 2: BadLine"),
-];
-
-#[test]
-fn refuses_counts_of_conditions(rt: HostRuntime) -> Result<(), AllocError> {
-    refuse(&rt, rt.alloc(), "vcc-cert 1\n", CONDITION_COUNTS, "\nend\n")
-}
-
-/// The same behind lemmas.
-const LATER_COUNTS: &[(&str, &str)] = &[
-    ("conditions 007", "line 5: BadNumber"),
-    ("conditions 20001", "line 5: CountOver"),
-    ("conditions", "line 5: BadLine"),
-    ("lemma 0 1 0", "line 5: BadLine"),
-    ("s conn =", "line 5: BadLine"),
-    ("t null", "line 5: BadLine"),
-];
-
-#[test]
-fn refuses_counts_of_conditions_behind_lemmas(rt: HostRuntime) -> Result<(), AllocError> {
-    refuse(
-        &rt,
-        rt.alloc(),
-        "vcc-cert 2\nlemmas 1\nlemma 0 1 0\ns conn =\n",
-        LATER_COUNTS,
-        "\nend\n",
-    )
-}
-
-/// The line that counts the lemmas.
-const LEMMA_COUNTS: &[(&str, &str)] = &[
-    ("lemmas 007", "line 2: BadNumber"),
-    ("lemmas x", "line 2: BadNumber"),
-    ("lemmas -1", "line 2: BadNumber"),
-    ("lemmas ", "line 2: BadNumber"),
-    ("lemmas 20001", "line 2: CountOver"),
-    ("lemmas", "line 2: BadLine"),
-    ("lemmas 0 ", "line 2: BadLine"),
-    ("lemmas 0 0", "line 2: BadLine"),
-    ("lemma 0 1 0", "line 2: BadLine"),
-    ("conditions 0", "line 2: BadLine"),
-    ("end", "line 2: BadLine"),
-];
-
-#[test]
-fn refuses_counts_of_lemmas(rt: HostRuntime) -> Result<(), AllocError> {
-    refuse(
-        &rt,
-        rt.alloc(),
-        "vcc-cert 2\n",
-        LEMMA_COUNTS,
-        "\nconditions 0\nend\n",
-    )
-}
-
-/// The first line of a block.
-const CONDITION_HEADS: &[(&str, &str)] = &[
-    ("condition x 0 0", "line 3: BadNumber"),
-    ("condition 0 x 0", "line 3: BadNumber"),
-    ("condition 0 0 x", "line 3: BadNumber"),
-    ("condition 00 0 0", "line 3: BadNumber"),
-    ("condition -1 0 0", "line 3: BadNumber"),
-    ("condition 0  0", "line 3: BadNumber"),
-    ("condition 1048577 0 0", "line 3: CountOver"),
-    ("condition 0 1048577 0", "line 3: CountOver"),
-    ("condition 0 0 4194305", "line 3: CountOver"),
-    ("condition 1048577 x 0", "line 3: CountOver"),
-    ("condition", "line 3: BadLine"),
-    ("condition 0", "line 3: BadLine"),
-    ("condition 0 0", "line 3: BadLine"),
-    ("condition 0 0 0 ", "line 3: BadLine"),
-    ("condition 0 0 0 0", "line 3: BadLine"),
-    ("condition 0 0 1", "line 3: BadLine"),
-    ("condition 1 0 1", "line 3: BadLine"),
-    ("lemma 0 1 0", "line 3: BadLine"),
-    ("conditions 0", "line 3: BadLine"),
-    ("t null", "line 3: BadLine"),
-    ("s root =", "line 3: BadLine"),
-    ("end", "line 3: BadLine"),
-    ("", "line 3: BadLine"),
-];
-
-#[test]
-fn refuses_heads_of_conditions(rt: HostRuntime) -> Result<(), AllocError> {
-    refuse(
-        &rt,
-        rt.alloc(),
-        "vcc-cert 1\nconditions 1\n",
-        CONDITION_HEADS,
-        "\nend\n",
-    )
-}
-
-/// The first line of a lemma, which has a step.
-const LEMMA_HEADS: &[(&str, &str)] = &[
-    ("lemma x 1 0", "line 3: BadNumber"),
-    ("lemma 0 x 0", "line 3: BadNumber"),
-    ("lemma 0 1 x", "line 3: BadNumber"),
-    ("lemma 1048577 1 0", "line 3: CountOver"),
-    ("lemma 0 1048577 0", "line 3: CountOver"),
-    ("lemma 0 1 4194305", "line 3: CountOver"),
-    ("lemma 0 0 0", "line 3: BadLine"),
-    ("lemma 0 0 x", "line 3: BadLine"),
-    ("lemma 0 0 4194305", "line 3: BadLine"),
-    ("lemma 0 1", "line 3: BadLine"),
-    ("lemma 0 1 0 0", "line 3: BadLine"),
-    ("lemma 0 1 0 ", "line 3: BadLine"),
-    ("condition 0 1 0", "line 3: BadLine"),
-    ("conditions 0", "line 3: BadLine"),
-];
-
-#[test]
-fn refuses_heads_of_lemmas(rt: HostRuntime) -> Result<(), AllocError> {
-    refuse(
-        &rt,
-        rt.alloc(),
-        "vcc-cert 2\nlemmas 1\n",
-        LEMMA_HEADS,
-        "\nconditions 0\nend\n",
-    )
-}
-
-/// A term of a block.
-const TERMS: &[(&str, &str)] = &[
-    ("t int x", "line 4: BadNumber"),
-    ("t int 007", "line 4: BadNumber"),
-    ("t int -0", "line 4: BadNumber"),
-    ("t int -", "line 4: BadNumber"),
-    ("t int ", "line 4: BadNumber"),
-    ("t int  1", "line 4: BadNumber"),
-    (
-        "t int 170141183460469231731687303715884105728",
-        "line 4: BadNumber",
+        "vcc-cert 1\nconditions 1\ncondition 0 0 4194305\nend\n",
+        "line 3: CountOver",
     ),
     (
-        "t int -170141183460469231731687303715884105729",
-        "line 4: BadNumber",
+        "vcc-cert 2\nlemmas 1\nlemma 0 1 1\ns lemma 0 = +1\nconditions 0\nend\n",
+        "line 4: BadLine",
     ),
-    ("t all ", "line 4: BadNumber"),
-    ("t add -1 0", "line 4: BadNumber"),
-    ("t add 0 4294967296", "line 4: BadNumber"),
-    ("t add x", "line 4: BadNumber"),
-    ("t add 1  2", "line 4: BadNumber"),
-    ("t add 1 ", "line 4: BadNumber"),
-    ("t null ", "line 4: BadNumber"),
-    ("t get 0 00", "line 4: BadNumber"),
-    ("t", "line 4: BadLine"),
-    ("t ", "line 4: BadLine"),
-    ("t  int 1", "line 4: BadLine"),
-    ("t get", "line 4: BadLine"),
-    ("t cex", "line 4: BadLine"),
-    ("t foo", "line 4: BadLine"),
-    ("t Int 1", "line 4: BadLine"),
-    ("t integer 1", "line 4: BadLine"),
-    ("T null", "line 4: BadLine"),
-    (" t null", "line 4: BadLine"),
-    ("s root =", "line 4: BadLine"),
-    ("condition 0 0 0", "line 4: BadLine"),
-    ("end", "line 4: BadLine"),
-    ("", "line 4: BadLine"),
-];
-
-#[test]
-fn refuses_terms_of_conditions(rt: HostRuntime) -> Result<(), AllocError> {
-    refuse(
-        &rt,
-        rt.alloc(),
-        "vcc-cert 1\nconditions 1\ncondition 1 0 0\n",
-        TERMS,
-        "\nend\n",
-    )
-}
-
-/// A term of a lemma.
-const LEMMA_TERMS: &[(&str, &str)] = &[
-    ("t int x", "line 4: BadNumber"),
-    ("t int 007", "line 4: BadNumber"),
-    ("t add -1 0", "line 4: BadNumber"),
-    ("t add 0 4294967296", "line 4: BadNumber"),
-    ("t null ", "line 4: BadNumber"),
-    ("t", "line 4: BadLine"),
-    ("t get", "line 4: BadLine"),
-    ("t foo", "line 4: BadLine"),
-    ("s conn =", "line 4: BadLine"),
-    ("conditions 0", "line 4: BadLine"),
-];
-
-#[test]
-fn refuses_terms_of_lemmas(rt: HostRuntime) -> Result<(), AllocError> {
-    refuse(
-        &rt,
-        rt.alloc(),
-        "vcc-cert 2\nlemmas 1\nlemma 1 1 0\n",
-        LEMMA_TERMS,
-        "\ns conn =\nconditions 0\nend\n",
-    )
-}
-
-/// The one step of a block with one literal.
-const STEPS: &[(&str, &str)] = &[
-    ("s root = 1", "line 4: BadNumber"),
-    ("s root = +01", "line 4: BadNumber"),
-    ("s root = +-1", "line 4: BadNumber"),
-    ("s root = --1", "line 4: BadNumber"),
-    ("s root = +", "line 4: BadNumber"),
-    ("s root = +4294967296", "line 4: BadNumber"),
-    ("s root = ", "line 4: BadNumber"),
-    ("s root =  +1", "line 4: BadNumber"),
-    ("s root = +1 ", "line 4: BadNumber"),
-    ("s root = +1 x", "line 4: BadNumber"),
-    ("s root = = +1", "line 4: BadNumber"),
-    ("s root == +1", "line 4: BadNumber"),
-    ("s root  = +1", "line 4: BadNumber"),
-    ("s root +1", "line 4: BadNumber"),
-    ("s conn 007 = +1", "line 4: BadNumber"),
-    ("s conn -0 = +1", "line 4: BadNumber"),
-    ("s conn -07 = +1", "line 4: BadNumber"),
-    ("s conn x = +1", "line 4: BadNumber"),
-    (
-        "s conn 170141183460469231731687303715884105728 = +1",
-        "line 4: BadNumber",
-    ),
-    ("s root -1", "line 4: BadLine"),
-    ("s root", "line 4: BadLine"),
-    ("s", "line 4: BadLine"),
-    ("s ", "line 4: BadLine"),
-    ("s = +1", "line 4: BadLine"),
-    ("s foo = +1", "line 4: BadLine"),
-    ("s Root = +1", "line 4: BadLine"),
-    ("s roots = +1", "line 4: BadLine"),
-    ("s  root = +1", "line 4: BadLine"),
-    ("s root =", "line 4: BadLine"),
-    ("s root = +1 +2", "line 4: BadLine"),
-    ("s lemma 0 = +1", "line 4: BadLine"),
-    ("root = +1", "line 4: BadLine"),
-    ("t null", "line 4: BadLine"),
-    ("condition 0 0 0", "line 4: BadLine"),
-    ("end", "line 4: BadLine"),
-    ("", "line 4: BadLine"),
-];
-
-#[test]
-fn refuses_steps_of_conditions(rt: HostRuntime) -> Result<(), AllocError> {
-    refuse(
-        &rt,
-        rt.alloc(),
-        "vcc-cert 1\nconditions 1\ncondition 0 1 1\n",
-        STEPS,
-        "\nend\n",
-    )
-}
-
-/// A literal past the count is a fault at that literal.
-const BARE_STEPS: &[(&str, &str)] = &[
-    ("s root = +1 x", "line 4: BadLine"),
-    ("s root = +1", "line 4: BadLine"),
-    ("s root = x", "line 4: BadNumber"),
-    ("s root = +01", "line 4: BadNumber"),
-];
-
-#[test]
-fn refuses_steps_without_literals(rt: HostRuntime) -> Result<(), AllocError> {
-    refuse(
-        &rt,
-        rt.alloc(),
-        "vcc-cert 1\nconditions 1\ncondition 0 1 0\n",
-        BARE_STEPS,
-        "\nend\n",
-    )
-}
-
-/// A step of a block of version 2.
-const LATER_STEPS: &[(&str, &str)] = &[
-    ("s lemma x = +1", "line 5: BadNumber"),
-    ("s lemma 0 = 1", "line 5: BadNumber"),
-    ("s lemma 0", "line 5: BadLine"),
-    ("s lemmas 0 = +1", "line 5: BadLine"),
-    ("s lemma 0 =", "line 5: BadLine"),
-];
-
-#[test]
-fn refuses_steps_of_the_second_version(rt: HostRuntime) -> Result<(), AllocError> {
-    refuse(
-        &rt,
-        rt.alloc(),
-        "vcc-cert 2\nlemmas 0\nconditions 1\ncondition 0 1 1\n",
-        LATER_STEPS,
-        "\nend\n",
-    )
-}
-
-/// A step of the first lemma.
-const LEMMA_STEPS: &[(&str, &str)] = &[
-    ("s conn x = +1", "line 4: BadNumber"),
-    ("s conn 1 = 1", "line 4: BadNumber"),
-    ("s lemma x = +1", "line 4: BadNumber"),
-    ("s lemma 00 = +1", "line 4: BadNumber"),
-    ("s root = +1", "line 4: BadLine"),
-    ("s lemma 0 = +1", "line 4: BadLine"),
-    ("s lemma 0 x = +1", "line 4: BadLine"),
-    ("s lemma 7 = +1", "line 4: BadLine"),
-    ("s conn 1", "line 4: BadLine"),
-    ("s foo = +1", "line 4: BadLine"),
-    ("s conn 1 =", "line 4: BadLine"),
-    ("s conn 1 = +1 +2", "line 4: BadLine"),
-    ("t null", "line 4: BadLine"),
-    ("lemma 0 1 0", "line 4: BadLine"),
-    ("conditions 0", "line 4: BadLine"),
-];
-
-#[test]
-fn refuses_steps_of_lemmas(rt: HostRuntime) -> Result<(), AllocError> {
-    refuse(
-        &rt,
-        rt.alloc(),
-        "vcc-cert 2\nlemmas 1\nlemma 0 1 1\n",
-        LEMMA_STEPS,
-        "\nconditions 0\nend\n",
-    )
-}
-
-/// The last line.
-const ENDS: &[(&str, &str)] = &[
-    ("end ", "line 3: BadLine"),
-    (" end", "line 3: BadLine"),
-    ("END", "line 3: BadLine"),
-    ("end end", "line 3: BadLine"),
-    ("end 0", "line 3: BadLine"),
-    ("condition 0 0 0", "line 3: BadLine"),
-    ("", "line 3: BadLine"),
-];
-
-#[test]
-fn refuses_ends(rt: HostRuntime) -> Result<(), AllocError> {
-    refuse(&rt, rt.alloc(), "vcc-cert 1\nconditions 0\n", ENDS, "\n")
-}
-
-/// Anything behind the last line, with LF or without.
-const TRAILING: &[(&str, &str)] = &[
-    ("x", "line 4: Trailing"),
-    ("x\n", "line 4: Trailing"),
-    ("\n", "line 4: Trailing"),
-    (" ", "line 4: Trailing"),
-    ("end\n", "line 4: Trailing"),
-    ("vcc-cert 1\n", "line 4: Trailing"),
-    ("end", "line 4: Trailing"),
-];
-
-#[test]
-fn refuses_what_stands_behind_the_end(rt: HostRuntime) -> Result<(), AllocError> {
-    refuse(
-        &rt,
-        rt.alloc(),
-        "vcc-cert 1\nconditions 0\nend\n",
-        TRAILING,
-        "",
-    )
-}
-
-/// The text ends where a line must come, or within a line, whatever it holds.
-const CUT: &[(&str, &str)] = &[
-    ("", "line 1: CutShort"),
-    ("v", "line 1: CutShort"),
-    ("vcc-cert 1", "line 1: CutShort"),
-    ("x", "line 1: CutShort"),
-    ("vcc-cert 1\n", "line 2: CutShort"),
-    ("vcc-cert 1\nconditions 0", "line 2: CutShort"),
-    ("vcc-cert 1\nconditions 0\n", "line 3: CutShort"),
     ("vcc-cert 1\nconditions 0\nen", "line 3: CutShort"),
-    ("vcc-cert 1\nconditions 0\nend", "line 3: CutShort"),
-    ("vcc-cert 1\nconditions 1\n", "line 3: CutShort"),
-    (
-        "vcc-cert 1\nconditions 1\ncondition 1 0 0\n",
-        "line 4: CutShort",
-    ),
-    (
-        "vcc-cert 1\nconditions 1\ncondition 0 1 0\n",
-        "line 4: CutShort",
-    ),
-    (
-        "vcc-cert 1\nconditions 1\ncondition 0 1 0\ns foo",
-        "line 4: CutShort",
-    ),
-    ("vcc-cert 2\n", "line 2: CutShort"),
-    ("vcc-cert 2\nlemmas 1\n", "line 3: CutShort"),
-    ("vcc-cert 2\nlemmas 0\n", "line 3: CutShort"),
-    ("vcc-cert 2\nlemmas 1\nlemma 0 1 0\n", "line 4: CutShort"),
-    (
-        "vcc-cert 2\nlemmas 1\nlemma 0 1 0\ns conn =\n",
-        "line 5: CutShort",
-    ),
+    ("vcc-cert 1\nconditions 0\nend\nx", "line 4: Trailing"),
 ];
 
 #[test]
-fn refuses_texts_cut_short(rt: HostRuntime) -> Result<(), AllocError> {
-    refuse(&rt, rt.alloc(), "", CUT, "")
+fn refuses_texts(rt: HostRuntime) -> Result<(), AllocError> {
+    for (text, want) in REFUSED {
+        refuse(&rt, rt.alloc(), *text, *want)?;
+    }
+    Ok(())
 }
 
 const SMALL: &str =
@@ -679,26 +242,6 @@ fn reads_a_certificate_in_two_pieces(rt: HostRuntime) -> Result<(), AllocError> 
     Ok(())
 }
 
-/// How many lines the bytes end.
-fn line_count(bytes: &[u8]) -> usize {
-    bytes.iter().filter(|byte| **byte == b'\n').count()
-}
-
-#[test]
-fn refuses_each_front(rt: HostRuntime) -> Result<(), AllocError> {
-    let alloc = rt.alloc();
-    for text in [SMALL, WITH_LEMMA] {
-        let bytes = text.as_bytes();
-        for at in 0..bytes.len() {
-            let line = line_count(&bytes[..at]);
-            let got = decoded(alloc, &bytes[..at])?;
-            let want = format!(in alloc; "line {}: CutShort", line as u128 + 1)?;
-            check(&rt, got.as_str(), want.as_str(), "front");
-        }
-    }
-    Ok(())
-}
-
 /// The number in the line `conditions`, behind this text.
 fn count(alloc: Global, text: &str) -> Option<u64> {
     let mut reader = BlockReader::new(alloc);
@@ -713,34 +256,4 @@ fn counts_conditions(rt: HostRuntime) {
     assert!(rt; count(alloc, "vcc-cert 1\nconditions 7\n") == Some(7));
     assert!(rt; count(alloc, "vcc-cert 1\nconditions 7\nx\n") == Some(7));
     assert!(rt; count(alloc, "vcc-cert 3\nconditions 7\n") == None);
-}
-
-/// A text with this head, and so many blocks without steps.
-fn with_blocks(alloc: Global, head: &[u8], count: u32) -> Result<Vec<u8>, AllocError> {
-    let mut text = Vec::from_slice(alloc, head)?;
-    for _ in 0..count {
-        text.extend_from_slice(b"condition 0 0 0\n")?;
-    }
-    text.extend_from_slice(b"end\n")?;
-    Ok(text)
-}
-
-fn block_count(alloc: Global, source: &[u8]) -> Option<usize> {
-    if source.len() > MOST_BYTES {
-        return None;
-    }
-    match decode(alloc, source) {
-        Ok(certificate) => Some(certificate.blocks.len()),
-        Err(_) => None,
-    }
-}
-
-#[test]
-fn at_most_20000_conditions(rt: HostRuntime) -> Result<(), AllocError> {
-    let most = with_blocks(rt.alloc(), b"vcc-cert 1\nconditions 20000\n", 20000)?;
-    let more = with_blocks(rt.alloc(), b"vcc-cert 1\nconditions 20001\n", 20001)?;
-    let is_read = block_count(rt.alloc(), &most) == Some(20000);
-    let is_refused = block_count(rt.alloc(), &more) == None;
-    assert!(rt; is_read && is_refused);
-    Ok(())
 }
