@@ -28,11 +28,14 @@ drop_all [] (suc i) h = refl
 drop_all (x ∷ xs) zero h = absurd (omega arith)
 drop_all (x ∷ xs) (suc i) h = drop_all xs i (omega arith)
 
+-- numbers that are counted on one after the other
+pub all_behind : (n k m : ℕ) → (n + k) + m ≡ n + (k + m)
+all_behind n k m = omega arith
+
 -- one more is counted
-pub counted : (xs : List x.Expr) (i : ℕ) (y : x.Expr) → i < length xs → y ≡ get_or xs i y → (n m k : ℕ) → m ≡ formulas (exp y) → k ≡ n + m → n + all_formulas (exps_of (exps (drop i xs))) ≡ all_formulas (exps_of (exps xs))
-    → k + all_formulas (exps_of (exps (drop (i + 1) xs))) ≡ all_formulas (exps_of (exps xs))
-counted xs i y lt is n m k e f h = let g = ap (λ zs. all_formulas (exps_of (exps zs))) (drop_at xs i y lt is) in omega (arith, e, f, g, h)
+pub counted : (xs : List x.Expr) (i : ℕ) (y : x.Expr) → i < length xs → y ≡ get_or xs i y → (n k total : ℕ) → k ≡ n + formulas (exp y) → n + all_formulas (exps_of (exps (drop i xs))) ≡ total → k + all_formulas (exps_of (exps (drop (i + 1) xs))) ≡ total
+counted xs i y lt is n k total e h = let g = ap (λ zs. all_formulas (exps_of (exps zs))) (drop_at xs i y lt is) in omega (arith, e, g, h)
 
 -- all are counted
-pub counted_all : (xs : List x.Expr) (i n : ℕ) → length xs ≤ i → n + all_formulas (exps_of (exps (drop i xs))) ≡ all_formulas (exps_of (exps xs)) → n ≡ all_formulas (exps_of (exps xs))
-counted_all xs i n h e = let g = ap (λ (zs : List x.Expr). all_formulas (exps_of (exps zs))) (drop_all xs i h) in omega (arith, e, g)
+pub counted_all : (xs : List x.Expr) (i n total : ℕ) → length xs ≤ i → n + all_formulas (exps_of (exps (drop i xs))) ≡ total → n ≡ total
+counted_all xs i n total h e = let g = ap (λ (zs : List x.Expr). all_formulas (exps_of (exps zs))) (drop_all xs i h) in omega (arith, e, g)

@@ -29,70 +29,53 @@ fn own_formulas(word: ListWord) -> u32
     }
 }
 
-/// How many quantified formulas stand in an expression.
+/// The number behind the formulas of an expression, of which the first has this number.
 #[cycle(formulas)]
-pub fn formulas(x: &Expr) -> Result<u32, AllocError>
-    ensures { IfOk result (λ n. n ≡ spec.formulas (view.exp x.now)) }
-{
-    match x {
-        Expr::Number(_, _, _) | Expr::Name(_) | Expr::Null(_) | Expr::Constant(_, _) => Ok(0),
-        Expr::Approves(_, _) => Ok(0),
-        Expr::Group(_, inner) => formulas(inner),
-        Expr::Field(_, left, _) => formulas(left),
-        Expr::Status(_, left, _, _) => formulas(left),
-        Expr::Owns(_, left, _) => formulas(left),
-        Expr::Unary(_, _, operand) => formulas(operand),
-        Expr::Apply(_, _, argument) => formulas(argument),
-        Expr::Binary(_, _, left, right) => {
-            let first = formulas(left)?;
-            let second = formulas(right)?;
-            plus(first, second)
-        }
-        Expr::Conditional(_, test, left, right) => {
-            let condition = formulas(test)?;
-            let first = formulas(left)?;
-            let second = formulas(right)?;
-            let branches = plus(first, second)?;
-            plus(condition, branches)
-        }
-        Expr::Several(_, word, arguments) => {
-            let inner = all_formulas(arguments)?;
-            plus(own_formulas(*word), inner)
-        }
-        Expr::ClaimsObject(_, claim, object) => {
-            let first = formulas(claim)?;
-            let second = formulas(object)?;
-            plus(first, second)
-        }
-        Expr::Claims(_, claim, property) => {
-            let first = formulas(claim)?;
-            let second = formulas(property)?;
-            plus(first, second)
-        }
-        Expr::Quantified(_, _, _, _, body) => {
-            let inner = formulas(body)?;
-            plus(1, inner)
-        }
-    }
-}
-
-/// How many quantified formulas stand in several expressions.
-#[cycle(formulas)]
-fn all_formulas(all: &[Expr]) -> Result<u32, AllocError>
-    ensures { IfOk result (λ n. n ≡ spec.all_formulas (exps_of (view.exps all.now))) }
-{
-    let mut total = 0u32;
-    for x in all {
-        let more = formulas(x)?;
-        total = plus(total, more)?;
-    }
-    Ok(total)
-}
-
-/// The number behind the formulas of an expression.
+#[tactic(auto, using(crate::proofs::Vectors::all_behind))]
 pub fn next_formula(first: u32, x: &Expr) -> Result<u32, AllocError>
     ensures { IfOk result (λ n. n ≡ first + spec.formulas (view.exp x.now)) }
 {
-    let count = formulas(x)?;
-    plus(first, count)
+    match x {
+        Expr::Number(_, _, _) | Expr::Name(_) | Expr::Null(_) | Expr::Constant(_, _) => Ok(first),
+        Expr::Approves(_, _) => Ok(first),
+        Expr::Group(_, inner) | Expr::Field(_, inner, _) | Expr::Status(_, inner, _, _) => {
+            next_formula(first, inner)
+        }
+        Expr::Owns(_, inner, _) | Expr::Unary(_, _, inner) | Expr::Apply(_, _, inner) => {
+            next_formula(first, inner)
+        }
+        Expr::Binary(_, _, left, right) => {
+            let middle = next_formula(first, left)?;
+            next_formula(middle, right)
+        }
+        Expr::ClaimsObject(_, left, right) | Expr::Claims(_, left, right) => {
+            let middle = next_formula(first, left)?;
+            next_formula(middle, right)
+        }
+        Expr::Conditional(_, test, left, right) => {
+            let second = next_formula(first, test)?;
+            let third = next_formula(second, left)?;
+            next_formula(third, right)
+        }
+        Expr::Several(_, word, arguments) => {
+            let start = plus(first, own_formulas(*word))?;
+            behind_all(start, arguments)
+        }
+        Expr::Quantified(_, _, _, _, body) => {
+            let start = plus(first, 1)?;
+            next_formula(start, body)
+        }
+    }
+}
+
+/// The number behind the formulas of several expressions, of which the first has this number.
+#[cycle(formulas)]
+fn behind_all(first: u32, all: &[Expr]) -> Result<u32, AllocError>
+    ensures { IfOk result (λ n. n ≡ first + spec.all_formulas (exps_of (view.exps all.now))) }
+{
+    let mut next = first;
+    for x in all {
+        next = next_formula(next, x)?;
+    }
+    Ok(next)
 }

@@ -1,4 +1,5 @@
 pub mod Added
+pub mod ByBodies
 pub mod Declared
 pub mod Standing
 pub mod Telling

@@ -14,6 +14,7 @@ ghost use Rattle.typed_program.specs.Trees as t;
 ghost use Rattle.typed_program.specs.Views.{claimed as claimed_seen};
 ghost use Rattle.elab_sites.specs.Views.{site as site_seen};
 
+use crate::growth::append;
 use c_syntax::expressions::{Expr, Identifier};
 use elab_annotations::annotations::property as property_of;
 use elab_code::around::Around;
@@ -22,6 +23,7 @@ use elab_code::numbers::{number, struct_number};
 use elab_code::places::Places;
 use method::program::{Claimed, DeclaredType, Spec};
 use std::alloc::{AllocError, Global};
+use tree_building::pair_with;
 use typing_expressions::forms::{bare, mentions};
 use typing_expressions::kinds::Kind;
 
@@ -67,7 +69,7 @@ fn add_if(found: &mut Vec<u32>, place: usize, is_wanted: bool) -> Result<(), All
 {
     if is_wanted {
         let next = number(place)?;
-        found.push(next)?;
+        return append(found, next);
     }
     Ok(())
 }
@@ -91,10 +93,10 @@ fn named(
 
 /// The declared type of a claimed value.
 fn type_of_claimed(
-    around: Around<'_, '_>,
+    around: &Around<'_, '_>,
     kind: Option<Kind<'_, '_>>,
 ) -> Result<DeclaredType, AllocError>
-    ensures { IfOk result (λ d. d ≡ spec.type_of_claimed (here around.entry) (maybe_kind kind.entry)) }
+    ensures { IfOk result (λ d. d ≡ spec.type_of_claimed (here around.now) (maybe_kind kind.entry)) }
 {
     match kind {
         Some(Kind::Pointer(entry)) => {
@@ -110,23 +112,24 @@ fn type_of_claimed(
 /// A claimed expression that is no name and no null.
 fn other_claimed<'s, 'a>(
     alloc: Global,
-    around: Around<'s, 'a>,
+    around: &Around<'s, 'a>,
     x: &'a Expr,
 ) -> Result<Claimed, AllocError>
-    ensures { IfOk result (λ c. claimed_seen c ≡ t.ClaimedOther (code (here around.entry) (view.exp x.now)) (spec.type_of_claimed (here around.entry) (kind_at (here around.entry).context.scope (view.exp x.now)))) }
+    ensures { IfOk result (λ c. claimed_seen c ≡ t.ClaimedOther (code (here around.now) (view.exp x.now)) (spec.type_of_claimed (here around.now) (kind_at (here around.now).context.scope (view.exp x.now)))) }
 {
-    let typed = typed_code(alloc, around, x)?;
-    let ty = type_of_claimed(around, typed.kind)?;
-    Ok(Claimed::ClaimedOther(typed.code, ty))
+    let typed = typed_code(alloc, *around, x)?;
+    let ty = type_of_claimed(around, typed.kind);
+    let (code, ty) = pair_with(typed.code, ty)?;
+    Ok(Claimed::ClaimedOther(code, ty))
 }
 
 /// A claimed expression without its brackets.
 fn claimed_bare<'s, 'a>(
     alloc: Global,
-    around: Around<'s, 'a>,
+    around: &Around<'s, 'a>,
     x: &'a Expr,
 ) -> Result<Claimed, AllocError>
-    ensures { IfOk result (λ c. claimed_seen c ≡ spec.claimed_bare (here around.entry) (view.exp x.now)) }
+    ensures { IfOk result (λ c. claimed_seen c ≡ spec.claimed_bare (here around.now) (view.exp x.now)) }
 {
     match x {
         Expr::Name(known) => {
@@ -138,29 +141,18 @@ fn claimed_bare<'s, 'a>(
     }
 }
 
-/// A claimed expression.
-fn claimed<'s, 'a>(
-    alloc: Global,
-    around: Around<'s, 'a>,
-    x: &'a Expr,
-) -> Result<Claimed, AllocError>
-    ensures { IfOk result (λ c. claimed_seen c ≡ spec.claimed (here around.entry) (view.exp x.now)) }
-{
-    claimed_bare(alloc, around, bare(x))
-}
-
 /// The claimed expressions of a claim.
 fn all_claimed<'s, 'a>(
     alloc: Global,
-    around: Around<'s, 'a>,
+    around: &Around<'s, 'a>,
     objects: &'a [Expr],
 ) -> Result<Vec<Claimed>, AllocError>
-    ensures { IfOk result (λ v. map claimed_seen v.items ≡ map (spec.claimed (here around.entry)) (view.exps objects.now)) }
+    ensures { IfOk result (λ v. map claimed_seen v.items ≡ map (spec.claimed (here around.now)) (view.exps objects.now)) }
 {
     let mut all: Vec<Claimed> = Vec::new(alloc);
     for x in objects {
-        let one = claimed(alloc, around, x)?;
-        all.push(one)?;
+        let one = claimed_bare(alloc, around, bare(x))?;
+        append(&mut all, one)?;
     }
     Ok(all)
 }
@@ -177,7 +169,7 @@ pub fn make_site<'s, 'a>(
     ensures { IfOk result (λ v. site_seen v ≡ spec.site (here around.entry) function line (view.exps objects.now) (view.exp property.now)) }
 {
     let variables = named(alloc, around.places, objects, property)?;
-    let claimed = all_claimed(alloc, around, objects)?;
+    let claimed = all_claimed(alloc, &around, objects)?;
     let conjuncts = property_of(alloc, around, 0, property)?;
     Ok(Site {
         function,

@@ -1,95 +1,83 @@
 //! The variables of a function, in order of declaration.
 
-ghost use Rattle.std.specs.Prelude.{◌≡◌, ◌++◌, map, flat_map, IfOk, OnOk};
+ghost use Rattle.std.specs.Prelude.{◌≡◌, ◌++◌, ◌∷◌, [], map, flat_map, IfOk, OnOk};
 ghost use Rattle.c_syntax.specs.Views as view;
 ghost use Rattle.typing_symbols.specs.Scopes.{variable};
 ghost use Rattle.typed_program.specs.Variables as spec;
+ghost use Rattle.elab_sites.specs.Bodies.{declares, ghost_declares, declared_as};
 
-use c_syntax::expressions::Identifier;
+use crate::bodies::{body, else_body, ghost_body, ghost_else_body};
+use crate::growth::append;
+use c_syntax::expressions::{Identifier, ValueType};
 use c_syntax::ghosts::GhostStmt;
 use c_syntax::items::{Function, Parameter};
 use c_syntax::statements::Stmt;
 use std::alloc::{AllocError, Global};
+use std::slice::from_ref;
 use typing_symbols::variables::Variable;
 
-/// Adds what a ghost statement declares, with what stands in it.
-#[cycle(ghosts)]
+/// Adds a variable.
+fn add<'a>(
+    declared: &mut Vec<Variable<'a>>,
+    name: &'a Identifier,
+    ty: &'a ValueType,
+    is_ghost: bool,
+) -> Result<(), AllocError>
+    ensures { OnOk result (map variable declared.new.items ≡ map variable declared.old.items ++
+        declared_as (view.id name.now) (view.ty ty.now) is_ghost ∷ []) }
+{
+    let one = Variable { name, ty, is_ghost };
+    append(declared, one)?;
+    Ok(())
+}
+
+/// Adds what a ghost statement declares, without those that stand in it.
 fn add_ghost<'a>(declared: &mut Vec<Variable<'a>>, x: &'a GhostStmt) -> Result<(), AllocError>
-    ensures { OnOk result (map variable declared.new.items ≡ map variable declared.old.items ++ spec.ghost_declared (view.ghost x.now)) }
+    ensures { OnOk result (map variable declared.new.items ≡ map variable declared.old.items ++
+        ghost_declares (view.ghost x.now)) }
 {
     match x {
-        GhostStmt::Block(_, all) => add_ghosts(declared, all),
-        GhostStmt::Declare(_, ty, name, _) => {
-            declared.push(Variable {
-                name,
-                ty,
-                is_ghost: true,
-            })?;
-            Ok(())
-        }
-        GhostStmt::Assign(_, _, _, _) | GhostStmt::Owns(_, _, _, _) => Ok(()),
-        GhostStmt::DestroyClaim(_, _, _) => Ok(()),
-        GhostStmt::Wrap(_, _) | GhostStmt::Unwrap(_, _) => Ok(()),
-        GhostStmt::If(_, _, yes) => add_ghost(declared, yes),
-        GhostStmt::IfElse(_, _, yes, no) => {
-            add_ghost(declared, yes)?;
-            add_ghost(declared, no)?;
-            Ok(())
-        }
+        GhostStmt::Declare(_, ty, name, _) => add(declared, name, ty, true),
+        _ => Ok(()),
     }
 }
 
-/// Adds what ghost statements declare.
+/// Adds what ghost statements declare, with what stands in them.
 #[cycle(ghosts)]
 fn add_ghosts<'a>(declared: &mut Vec<Variable<'a>>, all: &'a [GhostStmt]) -> Result<(), AllocError>
-    ensures { OnOk result (map variable declared.new.items ≡ map variable declared.old.items ++ flat_map spec.ghost_declared (map view.ghost all.now)) }
+    ensures { OnOk result (map variable declared.new.items ≡ map variable declared.old.items ++
+        flat_map spec.ghost_declared (map view.ghost all.now)) }
 {
     for x in all {
         add_ghost(declared, x)?;
+        add_ghosts(declared, ghost_body(x))?;
+        add_ghosts(declared, ghost_else_body(x))?;
     }
     Ok(())
 }
 
-/// Adds what a statement declares, with what stands in it.
-#[cycle(statements)]
+/// Adds what a statement declares, without those that stand in it.
 fn add_statement<'a>(declared: &mut Vec<Variable<'a>>, x: &'a Stmt) -> Result<(), AllocError>
-    ensures { OnOk result (map variable declared.new.items ≡ map variable declared.old.items ++ spec.declared (view.stm x.now)) }
+    ensures { OnOk result (map variable declared.new.items ≡ map variable declared.old.items ++
+        declares (view.stm x.now)) }
 {
     match x {
-        Stmt::Declare(_, ty, name, _) => {
-            declared.push(Variable {
-                name,
-                ty,
-                is_ghost: false,
-            })?;
-            Ok(())
-        }
-        Stmt::Ghost(_, inner) => add_ghost(declared, inner),
-        Stmt::Block(_, all, _) => add_statements(declared, all),
-        Stmt::Unwrapping(_, _, all, _) => add_statements(declared, all),
-        Stmt::Atomic(_, _, all, _) => add_statements(declared, all),
-        Stmt::If(_, _, yes) => add_statement(declared, yes),
-        Stmt::IfElse(_, _, yes, no) => {
-            add_statement(declared, yes)?;
-            add_statement(declared, no)?;
-            Ok(())
-        }
-        Stmt::While(_, _, _, body) => add_statement(declared, body),
-        Stmt::Do(_, _, body, _, _) => add_statement(declared, body),
-        Stmt::For(_, _, _, _, _, body) => add_statement(declared, body),
-        Stmt::Skip(_) | Stmt::Assign(_, _) | Stmt::Return(_, _) => Ok(()),
-        Stmt::Call(_, _) | Stmt::Spawn(_, _) => Ok(()),
-        Stmt::Free(_, _) | Stmt::Assert(_, _) | Stmt::Wrap(_, _) | Stmt::Unwrap(_, _) => Ok(()),
+        Stmt::Declare(_, ty, name, _) => add(declared, name, ty, false),
+        Stmt::Ghost(_, inner) => add_ghosts(declared, from_ref(inner)),
+        _ => Ok(()),
     }
 }
 
-/// Adds what statements declare.
+/// Adds what statements declare, with what stands in them.
 #[cycle(statements)]
 fn add_statements<'a>(declared: &mut Vec<Variable<'a>>, all: &'a [Stmt]) -> Result<(), AllocError>
-    ensures { OnOk result (map variable declared.new.items ≡ map variable declared.old.items ++ flat_map spec.declared (map view.stm all.now)) }
+    ensures { OnOk result (map variable declared.new.items ≡ map variable declared.old.items ++
+        flat_map spec.declared (map view.stm all.now)) }
 {
     for x in all {
         add_statement(declared, x)?;
+        add_statements(declared, body(x))?;
+        add_statements(declared, else_body(x))?;
     }
     Ok(())
 }
@@ -100,14 +88,11 @@ fn add_parameters<'a>(
     all: &'a [Parameter],
     is_ghost: bool,
 ) -> Result<(), AllocError>
-    ensures { OnOk result (map variable declared.new.items ≡ map variable declared.old.items ++ map (spec.parameter is_ghost) (map view.parameter all.now)) }
+    ensures { OnOk result (map variable declared.new.items ≡ map variable declared.old.items ++
+        map (spec.parameter is_ghost) (map view.parameter all.now)) }
 {
     for x in all {
-        declared.push(Variable {
-            name: &x.name,
-            ty: &x.ty,
-            is_ghost,
-        })?;
+        add(declared, &x.name, &x.ty, is_ghost)?;
     }
     Ok(())
 }
@@ -129,7 +114,7 @@ fn names_of<'a>(alloc: Global, all: &[Variable<'a>]) -> Result<Vec<&'a Identifie
 {
     let mut names: Vec<&'a Identifier> = Vec::new(alloc);
     for one in all {
-        names.push(one.name)?;
+        append(&mut names, one.name)?;
     }
     Ok(names)
 }

@@ -12,17 +12,16 @@ use Rattle.typing_spec.specs.Contexts.{Variable}
 use Rattle.typing_statements.specs.Views.{following, behind_all}
 use Rattle.typed_program.specs.Annotations.{formulas}
 use Rattle.typed_program.specs.Codes.{code}
-use Rattle.typed_program.specs.Numbers.{Around, function_number, struct_at}
+use Rattle.typed_program.specs.Numbers.{Around, struct_at}
 use Rattle.typed_program.specs.Shapes.{Sorts, numbered}
 use Rattle.typed_program.specs.Statements as s
-use Rattle.typed_program.specs.Statements.{Counters, none, plus, plus_formulas, some_formulas, in_ghost, in_ghosts, in_invariants, in_statement, in_statements, ghost_row, ghost_rows, known_behind_ghost, known_behind}
+use Rattle.typed_program.specs.Statements.{Counters, plus, plus_formulas, some_formulas, in_ghost, in_invariants, in_statement, in_statements, ghost_row, ghost_rows, known_behind_ghost, known_behind}
 use Rattle.typed_program.specs.Tables.{numbered_statement, numbered_row}
 use Rattle.typed_program.specs.Trees as t
 use Rattle.elab_statements.specs.Settings.{Setting, at}
 use Rattle.elab_statements.specs.Rows.{nothing, single, appended, branched, typed_ghost, typed_inners}
-use Rattle.elab_annotations.specs.Views as annotations
-use Rattle.elab_clauses.specs.Numberings.{Numbering, typed_said, said_invariants}
-use Rattle.elab_statements.specs.Shaped.{typed_statement, typed_statements, declared_statement, asserted, while_row, do_row, for_row, unwrapping_row}
+use Rattle.elab_clauses.specs.Numberings.{Numbering, said_invariants}
+use Rattle.elab_statements.specs.Shaped.{typed_statement, typed_statements, declared_statement, while_row, do_row, for_row, unwrapping_row}
 use Rattle.elab_statements.proofs.Sums.{plus_none, plus_assoc, plus_some, behind_statements_more}
 use Rattle.elab_statements.proofs.Scopes.{step}
 use Rattle.elab_statements.proofs.Sequences.{rows, append_none, append_twice}
@@ -91,15 +90,6 @@ call_law k a n p x = rows refl (plus_none n)
 pub return_law : (k : Numbering) (a : Around) (n : Counters) (p : Span) (x : Option Exp) → single n (t.Return p.line (s.returned a x)) ≡ typed_statement k a n (st.Return p x)
 return_law k a n p x = rows refl (plus_none n)
 
-pub spawn_law : (k : Numbering) (a : Around) (n : Counters) (p : Span) (x : CallTree) → single n (t.Do p.line (t.SpawnThread (function_number a.context.scope.items x.function) (s.arguments a x))) ≡ typed_statement k a n (st.Spawn p x)
-spawn_law k a n p x = rows refl (plus_none n)
-
-pub free_law : (k : Numbering) (a : Around) (n : Counters) (p : Span) (x : Exp) → single n (t.Do p.line (t.FreeObject (code a x))) ≡ typed_statement k a n (st.Free p x)
-free_law k a n p x = rows refl (plus_none n)
-
-pub unwrap_law : (k : Numbering) (a : Around) (n : Counters) (p : Span) (x : Exp) → single n (t.Do p.line (t.UnwrapObject (code a x))) ≡ typed_statement k a n (st.Unwrap p x)
-unwrap_law k a n p x = rows refl (plus_none n)
-
 pub ghost_law : (k : Numbering) (a : Around) (n : Counters) (p : Span) (x : GStm) → typed_ghost a n x ≡ typed_statement k a n (st.Ghost p x)
 ghost_law k a n p x = rows (sym (ghost_same k.shapes k.sorts a n x)) refl
 
@@ -166,7 +156,3 @@ statements_law j k vs n ss y =
 
 pub no_statements : (j : Numbering) (k : Setting) (vs : List Variable) (n : Counters) → nothing n ≡ typed_statements j (at k vs) n (stms_of [])
 no_statements j k vs n = rows refl (plus_none n)
-
--- `_(assert E)`, from what E is typed as
-pub assert_law : (k : Numbering) (a : Around) (n : Counters) (line : ℕ) (x : Exp) {w : annotations.Typed} → w ≡ typed_said k a n.formulas x → single (record n { formulas = w.next }) (t.Do line (t.AssertSpec w.spec)) ≡ asserted k a n line x
-assert_law k a n line x e = ap (λ (w : annotations.Typed). single (record n { formulas = w.next }) (t.Do line (t.AssertSpec w.spec))) e ∙ rows refl (plus_some n (formulas x))

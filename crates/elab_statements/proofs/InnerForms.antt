@@ -3,10 +3,9 @@ use Rattle.std.proofs.Common.{◌≡◌, refl, ap, ◌∙◌}
 use Rattle.c_syntax.specs.declared.token.Span.{Span}
 use Rattle.c_syntax.specs.Expressions.{Assignment}
 use Rattle.c_syntax.specs.Statements as st
-use Rattle.c_syntax.specs.Statements.{Stm}
 use Rattle.typed_program.specs.Numbers.{Around}
 use Rattle.typed_program.specs.Statements as s
-use Rattle.typed_program.specs.Statements.{Counters, plus}
+use Rattle.typed_program.specs.Statements.{Counters}
 use Rattle.typed_program.specs.Trees as t
 use Rattle.elab_statements.specs.Rows.{single_inner, typed_inner}
 use Rattle.elab_statements.proofs.Sums.{plus_none}

@@ -1,9 +1,11 @@
 pub mod Counting
 pub mod Forms
 pub mod GhostForms
+pub mod Groups
 pub mod InnerForms
-pub mod Sequences
+pub mod Others
 pub mod Scopes
+pub mod Sequences
 pub mod StatementSteps
 pub mod Steps
 pub mod Sums

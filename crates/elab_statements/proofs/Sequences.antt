@@ -8,7 +8,7 @@ use Rattle.typing_statements.specs.Views.{following, behind_all, behind_ghost, b
 use Rattle.typed_program.specs.Trees as t
 use Rattle.typed_program.specs.Numbers.{Around}
 use Rattle.typed_program.specs.Statements as s
-use Rattle.typed_program.specs.Statements.{Counters, plus, none, in_ghost, in_ghosts, in_statement, in_statements, ghost_row, ghost_rows, inner_ghost, inner_ghosts, inner_row, inner_rows, known_behind, known_behind_ghost}
+use Rattle.typed_program.specs.Statements.{Counters, plus, in_ghost, in_ghosts, in_statement, in_statements, ghost_row, ghost_rows, inner_ghost, inner_ghosts, inner_row, inner_rows, known_behind, known_behind_ghost}
 use Rattle.elab_statements.specs.Settings.{Setting, at}
 use Rattle.elab_statements.specs.Rows.{Typed, TypedInner, nothing, appended, no_inner, appended_inner, typed_ghost, typed_ghosts, typed_inner_ghost, typed_inner_ghosts, typed_inner, typed_inners}
 use Rattle.elab_statements.proofs.Sums.{plus_none, plus_assoc, behind_ghosts_more, behind_statements_more}

@@ -11,7 +11,7 @@ use Rattle.elab_annotations.specs.Views.{Several}
 use Rattle.typed_program.specs.Codes.{code}
 use Rattle.typed_program.specs.Numbers.{Around, struct_at}
 use Rattle.typed_program.specs.Statements as s
-use Rattle.typed_program.specs.Statements.{Counters, plus, plus_formulas, in_statement}
+use Rattle.typed_program.specs.Statements.{Counters, plus_formulas}
 use Rattle.typed_program.specs.Trees as t
 use Rattle.elab_statements.specs.Rows.{Typed, TypedInner, nothing, single, branched, typed_inners}
 use Rattle.elab_clauses.specs.Numberings.{Numbering, said_invariants}
@@ -43,13 +43,11 @@ pub do_step : (j : Numbering) {a k : Around} (n : Counters) (p : Span) (is : Lis
     → do_row p.line told.specs inner q.line (code a x) ≡ typed_statement j k n (st.Do p is y q x)
 do_step j {a} {k} n p is y q x {told} e f g = (λ i. do_row p.line told.specs (g i) q.line (code (e i) x)) ∙ (ap (λ (r : Several). do_row p.line r.specs (typed_statement j k (from n r.next) y) q.line (code k x)) f ∙ do_law j k n p is y q x)
 
-pub for_step : (j : Numbering) {a b k : Around} (n : Counters) (p : Span) (u : Option Assignment) (x : Exp) (v : Option Assignment) (is : List Inv) (y : Stm) {front : Typed} {told : Several} {inner : Typed}
-    → a ≡ k → b ≡ k → front ≡ record { statements = s.maybe_assigned b u; next = n } → told ≡ said_invariants j k n.formulas is → inner ≡ typed_statement j k (from n told.next) y
-    → for_row p.line front told.specs (code a x) inner (s.maybe_assigned a v) ≡ typed_statement j k n (st.For p u x v is y)
-for_step j {a} {b} {k} n p u x v is y {front} {told} e h m f g =
-    (λ i. for_row p.line (m i) told.specs (code (e i) x) (g i) (s.maybe_assigned (e i) v))
-    ∙ (ap (λ (c : Around). for_row p.line (record { statements = s.maybe_assigned c u; next = n }) told.specs (code k x) (typed_statement j k (from n told.next) y) (s.maybe_assigned k v)) h
-    ∙ (ap (λ (r : Several). for_row p.line (record { statements = s.maybe_assigned k u; next = n }) r.specs (code k x) (typed_statement j k (from n r.next) y) (s.maybe_assigned k v)) f ∙ for_law j k n p u x v is y))
+pub for_step : (j : Numbering) {a k : Around} (n : Counters) (p : Span) (u : Option Assignment) (x : Exp) (v : Option Assignment) (is : List Inv) (y : Stm) {told : Several} {inner : Typed} → a ≡ k → told ≡ said_invariants j k n.formulas is → inner ≡ typed_statement j k (from n told.next) y
+    → for_row p.line (record { statements = s.maybe_assigned a u; next = n }) told.specs (code a x) inner (s.maybe_assigned a v) ≡ typed_statement j k n (st.For p u x v is y)
+for_step j {a} {k} n p u x v is y {told} e f g =
+    (λ i. for_row p.line (record { statements = s.maybe_assigned (e i) u; next = n }) told.specs (code (e i) x) (g i) (s.maybe_assigned (e i) v))
+    ∙ (ap (λ (r : Several). for_row p.line (record { statements = s.maybe_assigned k u; next = n }) r.specs (code k x) (typed_statement j k (from n r.next) y) (s.maybe_assigned k v)) f ∙ for_law j k n p u x v is y)
 
 pub unwrapping_step : (j : Numbering) {a k : Around} (n : Counters) (p : Span) (x : Exp) (ss : Stms) (q : Span) {m : Counters} {inner : Typed} → a ≡ k → m ≡ plus_formulas n 1 → inner ≡ typed_statements j k m ss
     → unwrapping_row p.line (struct_at a x) n.formulas (code a x) inner ≡ typed_statement j k n (st.Unwrapping p x ss q)

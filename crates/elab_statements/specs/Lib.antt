@@ -1,3 +1,4 @@
+pub mod Forms
 pub mod Rows
 pub mod Settings
 pub mod Shaped

@@ -10,12 +10,12 @@ ghost use Rattle.typed_program.specs.Annotations.{formulas as formulas_of};
 use c_syntax::expressions::Expr;
 use c_syntax::ghosts::{GhostRight, GhostStmt};
 use c_syntax::statements::{Invariant, Stmt};
-use elab_annotations::counts::{formulas, next_formula};
+use elab_annotations::counts::next_formula;
 use elab_assignments::counters::Counters;
 use std::alloc::AllocError;
 
 /// What stands behind a right side.
-pub fn behind_right(before: Counters, x: &GhostRight) -> Result<Counters, AllocError>
+fn behind_right(before: Counters, x: &GhostRight) -> Result<Counters, AllocError>
     ensures { IfOk result (λ n. stands n ≡ spec.plus (stands before) (spec.in_claim (view.ghost_rhs x.now))) }
 {
     match x {
@@ -29,24 +29,14 @@ pub fn behind_right(before: Counters, x: &GhostRight) -> Result<Counters, AllocE
 }
 
 /// What stands behind a first value, if there is one.
-pub fn behind_first(before: Counters, x: &Option<GhostRight>) -> Result<Counters, AllocError>
-    ensures { IfOk result (λ n. stands n ≡ spec.plus (stands before) (spec.in_maybe (option_map view.ghost_rhs x.now))) }
+fn behind_first(before: Counters, x: &Option<GhostRight>) -> Result<Counters, AllocError>
+    ensures { IfOk result (λ n. stands n ≡
+        spec.plus (stands before) (spec.in_maybe (option_map view.ghost_rhs x.now))) }
 {
     match x {
         None => Ok(before),
         Some(value) => behind_right(before, value),
     }
-}
-
-/// What stands behind the end of a claim.
-pub fn behind_end(before: Counters) -> Result<Counters, AllocError>
-    ensures { IfOk result (λ n. stands n ≡ spec.plus (stands before) (record spec.none { ended = 1 })) }
-{
-    before.plus(Counters {
-        formulas: 0,
-        ended: 1,
-        sites: 0,
-    })
 }
 
 /// What stands behind so many formulas.
@@ -70,7 +60,11 @@ pub fn behind_ghost(before: Counters, x: &GhostStmt) -> Result<Counters, AllocEr
         GhostStmt::Declare(_, _, _, first) => behind_first(before, first),
         GhostStmt::Assign(_, _, _, value) => behind_right(before, value),
         GhostStmt::Owns(_, _, _, _) => Ok(before),
-        GhostStmt::DestroyClaim(_, _, _) => behind_end(before),
+        GhostStmt::DestroyClaim(_, _, _) => before.plus(Counters {
+            formulas: 0,
+            ended: 1,
+            sites: 0,
+        }),
         GhostStmt::Wrap(_, _) => behind_some(before, 1),
         GhostStmt::Unwrap(_, _) => Ok(before),
         GhostStmt::If(_, _, yes) => behind_ghost(before, yes),
@@ -84,7 +78,8 @@ pub fn behind_ghost(before: Counters, x: &GhostStmt) -> Result<Counters, AllocEr
 /// What stands behind ghost statements.
 #[cycle(ghosts)]
 fn behind_ghosts(before: Counters, all: &[GhostStmt]) -> Result<Counters, AllocError>
-    ensures { IfOk result (λ n. stands n ≡ spec.plus (stands before) (spec.in_ghosts (ghosts_of (map view.ghost all.now)))) }
+    ensures { IfOk result (λ n. stands n ≡
+        spec.plus (stands before) (spec.in_ghosts (ghosts_of (map view.ghost all.now)))) }
 {
     let mut next = before;
     for x in all {
@@ -94,7 +89,7 @@ fn behind_ghosts(before: Counters, all: &[GhostStmt]) -> Result<Counters, AllocE
 }
 
 /// The number behind the formulas of a loop's invariants.
-pub fn behind_invariants(first: u32, all: &[Invariant]) -> Result<u32, AllocError>
+fn behind_invariants(first: u32, all: &[Invariant]) -> Result<u32, AllocError>
     ensures { IfOk result (λ n. n ≡ first + spec.in_invariants (map view.invariant all.now)) }
 {
     let mut next = first;
@@ -104,27 +99,22 @@ pub fn behind_invariants(first: u32, all: &[Invariant]) -> Result<u32, AllocErro
     Ok(next)
 }
 
-/// How many formulas stand in a loop's invariants.
-fn invariants(all: &[Invariant]) -> Result<u32, AllocError>
-    ensures { IfOk result (λ n. n ≡ spec.in_invariants (map view.invariant all.now)) }
-{
-    behind_invariants(0, all)
-}
-
 /// What stands behind an annotation.
 fn behind_annotation(before: Counters, x: &Expr) -> Result<Counters, AllocError>
-    ensures { IfOk result (λ n. stands n ≡ spec.plus (stands before) (spec.some_formulas (formulas_of (view.exp x.now)))) }
+    ensures { IfOk result (λ n. stands n ≡
+        spec.plus (stands before) (spec.some_formulas (formulas_of (view.exp x.now)))) }
 {
-    let count = formulas(x)?;
-    behind_some(before, count)
+    let formulas = next_formula(before.formulas, x)?;
+    Ok(Counters { formulas, ..before })
 }
 
 /// What stands behind a loop with these invariants, of which the body is to be counted yet.
-pub fn behind_front(before: Counters, all: &[Invariant]) -> Result<Counters, AllocError>
-    ensures { IfOk result (λ n. stands n ≡ spec.plus (stands before) (spec.some_formulas (spec.in_invariants (map view.invariant all.now)))) }
+fn behind_front(before: Counters, all: &[Invariant]) -> Result<Counters, AllocError>
+    ensures { IfOk result (λ n. stands n ≡
+        spec.plus (stands before) (spec.some_formulas (spec.in_invariants (map view.invariant all.now)))) }
 {
-    let count = invariants(all)?;
-    behind_some(before, count)
+    let formulas = behind_invariants(before.formulas, all)?;
+    Ok(Counters { formulas, ..before })
 }
 
 /// What stands behind a statement.
@@ -133,47 +123,41 @@ pub fn behind_statement(before: Counters, x: &Stmt) -> Result<Counters, AllocErr
     ensures { IfOk result (λ n. stands n ≡ spec.plus (stands before) (spec.in_statement (view.stm x.now))) }
 {
     match x {
-        Stmt::Block(_, all, _) => behind_statements(before, all),
-        Stmt::Skip(_) => Ok(before),
-        Stmt::Declare(_, _, _, _) => Ok(before),
-        Stmt::Assign(_, _) => Ok(before),
-        Stmt::Call(_, _) => Ok(before),
+        Stmt::Block(_, all, _) | Stmt::Atomic(_, _, all, _) => behind_statements(before, all),
         Stmt::If(_, _, yes) => behind_statement(before, yes),
         Stmt::IfElse(_, _, yes, no) => {
             let next = behind_statement(before, yes)?;
             behind_statement(next, no)
         }
-        Stmt::While(_, _, all, body) => {
+        Stmt::While(_, _, all, body)
+        | Stmt::Do(_, all, body, _, _)
+        | Stmt::For(_, _, _, _, all, body) => {
             let next = behind_front(before, all)?;
             behind_statement(next, body)
         }
-        Stmt::Do(_, all, body, _, _) => {
-            let next = behind_front(before, all)?;
-            behind_statement(next, body)
-        }
-        Stmt::For(_, _, _, _, all, body) => {
-            let next = behind_front(before, all)?;
-            behind_statement(next, body)
-        }
-        Stmt::Return(_, _) => Ok(before),
-        Stmt::Spawn(_, _) => Ok(before),
-        Stmt::Free(_, _) => Ok(before),
         Stmt::Assert(_, property) => behind_annotation(before, property),
         Stmt::Ghost(_, inner) => behind_ghost(before, inner),
         Stmt::Wrap(_, _) => behind_some(before, 1),
-        Stmt::Unwrap(_, _) => Ok(before),
         Stmt::Unwrapping(_, _, all, _) => {
             let next = behind_some(before, 1)?;
             behind_statements(next, all)
         }
-        Stmt::Atomic(_, _, all, _) => behind_statements(before, all),
+        Stmt::Skip(_)
+        | Stmt::Declare(_, _, _, _)
+        | Stmt::Assign(_, _)
+        | Stmt::Call(_, _)
+        | Stmt::Return(_, _)
+        | Stmt::Spawn(_, _)
+        | Stmt::Free(_, _)
+        | Stmt::Unwrap(_, _) => Ok(before),
     }
 }
 
 /// What stands behind statements.
 #[cycle(statements)]
 pub fn behind_statements(before: Counters, all: &[Stmt]) -> Result<Counters, AllocError>
-    ensures { IfOk result (λ n. stands n ≡ spec.plus (stands before) (spec.in_statements (stms_of (map view.stm all.now)))) }
+    ensures { IfOk result (λ n. stands n ≡
+        spec.plus (stands before) (spec.in_statements (stms_of (map view.stm all.now)))) }
 {
     let mut next = before;
     for x in all {

@@ -11,13 +11,10 @@ ghost use Rattle.elab_statements.specs.Settings.{setting as set, at};
 use crate::choices::{if_else_row, if_row};
 use crate::rows::Row;
 use crate::settings::Setting;
-use crate::simple_ghosts::{
-    destroyed, ghost_assignment, ghost_declaration, owned_set_change, unwrap, wrap,
-};
+use crate::simple_ghosts::action_row;
 use c_syntax::ghosts::GhostStmt;
 use elab_assignments::counters::Counters;
 use std::alloc::{AllocError, Global};
-use typing_expressions::context::Quantified;
 use typing_statements::scopes::know_ghost;
 use typing_symbols::variables::Variables;
 
@@ -30,46 +27,28 @@ pub fn ghost_statement<'s, 'a>(
     before: Counters,
     x: &'a GhostStmt,
 ) -> Result<Row, AllocError>
-    ensures typed { IfOk result (λ r. row r ≡ typed_ghost (at (set setting.entry) (known variables.old)) (stands before) (view.ghost x.now)) }
+    ensures typed { IfOk result (λ r. row r ≡
+        typed_ghost (at (set setting.entry) (known variables.old)) (stands before) (view.ghost x.now)) }
     ensures kept { OnOk result (known variables.new ≡ known variables.old) }
 {
-    let none = Quantified::Nothing;
     match x {
         GhostStmt::Block(_, all) => ghost_statements(alloc, setting, variables, before, all),
-        GhostStmt::Declare(span, ty, name, first) => {
-            let around = setting.around(variables, &none);
-            ghost_declaration(alloc, around, before, *span, ty, name, first)
-        }
-        GhostStmt::Assign(span, left, _, value) => {
-            let around = setting.around(variables, &none);
-            ghost_assignment(alloc, around, before, span.line, left, value)
-        }
-        GhostStmt::Owns(span, left, _, change) => {
-            let around = setting.around(variables, &none);
-            owned_set_change(alloc, around, before, span.line, left, change)
-        }
-        GhostStmt::DestroyClaim(span, claim, objects) => {
-            let around = setting.around(variables, &none);
-            destroyed(alloc, around, before, span.line, claim, objects)
-        }
-        GhostStmt::Wrap(span, object) => {
-            let around = setting.around(variables, &none);
-            wrap(alloc, around, before, span.line, object)
-        }
-        GhostStmt::Unwrap(span, object) => {
-            let around = setting.around(variables, &none);
-            unwrap(alloc, around, before, span.line, object)
-        }
         GhostStmt::If(span, test, yes) => {
             let inner = ghost_statement(alloc, setting, variables, before, yes)?;
-            let around = setting.around(variables, &none);
-            if_row(alloc, around, span.line, true, test, inner)
+            if_row(alloc, setting, variables, span.line, true, test, inner)
         }
         GhostStmt::IfElse(span, test, first, second) => {
             let yes = ghost_statement(alloc, setting, variables, before, first)?;
             let no = ghost_statement(alloc, setting, variables, yes.next, second)?;
-            let around = setting.around(variables, &none);
-            if_else_row(alloc, around, span.line, true, test, yes, no)
+            if_else_row(alloc, setting, variables, span.line, true, test, yes, no)
+        }
+        GhostStmt::Declare(span, _, _, _)
+        | GhostStmt::Assign(span, _, _, _)
+        | GhostStmt::Owns(span, _, _, _)
+        | GhostStmt::DestroyClaim(span, _, _)
+        | GhostStmt::Wrap(span, _)
+        | GhostStmt::Unwrap(span, _) => {
+            action_row(alloc, setting, variables, before, span.line, x)
         }
     }
 }
@@ -83,7 +62,9 @@ fn ghost_statements<'s, 'a>(
     before: Counters,
     all: &'a [GhostStmt],
 ) -> Result<Row, AllocError>
-    ensures typed { IfOk result (λ r. row r ≡ typed_ghosts (at (set setting.entry) (known variables.old)) (stands before) (ghosts_of (map view.ghost all.now))) }
+    ensures typed { IfOk result (λ r. row r ≡
+        typed_ghosts (at (set setting.entry) (known variables.old)) (stands before) (ghosts_of
+        (map view.ghost all.now))) }
     ensures kept { OnOk result (known variables.new ≡ known variables.old) }
 {
     let count = variables.count();

@@ -4,7 +4,6 @@ ghost use Rattle.std.specs.Prelude.{◌≡◌, map, IfOk, OnOk};
 ghost use Rattle.c_syntax.specs.Grammar.{ghosts_of, stms_of};
 ghost use Rattle.c_syntax.specs.Views as view;
 ghost use Rattle.typing_symbols.specs.Scopes.{known};
-ghost use Rattle.elab_code.specs.Views.{around as here};
 ghost use Rattle.elab_assignments.specs.Views.{before as stands};
 ghost use Rattle.typed_program.specs.Statements as spec;
 ghost use Rattle.typed_program.specs.Trees as t;
@@ -12,17 +11,16 @@ ghost use Rattle.elab_statements.specs.Rows.{inner as seen, no_inner, single_inn
 ghost use Rattle.elab_statements.specs.Settings.{setting as set, at};
 
 use crate::choices::{inner_if_else_row, inner_if_row};
-use crate::counts::{behind_ghost, behind_statement};
+use crate::counts::behind_statement;
 use crate::rows::InnerRow;
 use crate::settings::Setting;
-use crate::simple_ghosts::{inner_assignment, inner_destroyed, inner_set_change};
+use crate::simple_ghosts::inner_change_row;
 use c_syntax::expressions::Assignment;
 use c_syntax::ghosts::GhostStmt;
 use c_syntax::statements::Stmt;
-use c_syntax::token::Span;
 use elab_assignments::assignments::inner_assigned;
 use elab_assignments::counters::Counters;
-use elab_code::around::Around;
+use method::program::Inner;
 use std::alloc::{AllocError, Global};
 use typing_expressions::context::Quantified;
 use typing_statements::scopes::{know, know_ghost};
@@ -37,47 +35,30 @@ fn inner_ghost<'s, 'a>(
     before: Counters,
     x: &'a GhostStmt,
 ) -> Result<InnerRow, AllocError>
-    ensures typed { IfOk result (λ r. seen r ≡ typed_inner_ghost (at (set setting.entry) (known variables.old)) (stands before) (view.ghost x.now)) }
+    ensures typed { IfOk result (λ r. seen r ≡
+        typed_inner_ghost (at (set setting.entry) (known variables.old)) (stands before) (view.ghost x.now)) }
     ensures kept { OnOk result (known variables.new ≡ known variables.old) }
 {
-    let none = Quantified::Nothing;
     match x {
         GhostStmt::Block(_, all) => inner_ghosts(alloc, setting, variables, before, all),
-        GhostStmt::Assign(span, left, _, value) => {
-            let around = setting.around(variables, &none);
-            inner_assignment(alloc, around, before, span.line, left, value)
-        }
-        GhostStmt::Owns(span, left, _, change) => {
-            let around = setting.around(variables, &none);
-            inner_set_change(alloc, around, before, span.line, left, change)
-        }
-        GhostStmt::DestroyClaim(span, claim, objects) => {
-            let around = setting.around(variables, &none);
-            inner_destroyed(alloc, around, before, span.line, claim, objects)
-        }
         GhostStmt::If(span, test, yes) => {
             let inner = inner_ghost(alloc, setting, variables, before, yes)?;
-            let around = setting.around(variables, &none);
-            inner_if_row(alloc, around, span.line, test, inner)
+            inner_if_row(alloc, setting, variables, span.line, test, inner)
         }
         GhostStmt::IfElse(span, test, first, second) => {
             let yes = inner_ghost(alloc, setting, variables, before, first)?;
             let no = inner_ghost(alloc, setting, variables, yes.next, second)?;
-            let around = setting.around(variables, &none);
-            inner_if_else_row(alloc, around, span.line, test, yes, no)
+            inner_if_else_row(alloc, setting, variables, span.line, test, yes, no)
         }
-        GhostStmt::Declare(_, _, _, _) => no_inner_ghost(alloc, before, x),
-        GhostStmt::Wrap(_, _) => no_inner_ghost(alloc, before, x),
-        GhostStmt::Unwrap(_, _) => no_inner_ghost(alloc, before, x),
+        GhostStmt::Declare(span, _, _, _)
+        | GhostStmt::Assign(span, _, _, _)
+        | GhostStmt::Owns(span, _, _, _)
+        | GhostStmt::DestroyClaim(span, _, _)
+        | GhostStmt::Wrap(span, _)
+        | GhostStmt::Unwrap(span, _) => {
+            inner_change_row(alloc, setting, variables, before, span.line, x)
+        }
     }
-}
-
-/// What stands in no atomic block.
-fn no_inner_ghost(alloc: Global, before: Counters, x: &GhostStmt) -> Result<InnerRow, AllocError>
-    ensures { IfOk result (λ r. seen r ≡ no_inner (spec.plus (stands before) (spec.in_ghost (view.ghost x.now)))) }
-{
-    let next = behind_ghost(before, x)?;
-    Ok(InnerRow::nothing(alloc, next))
 }
 
 /// Ghost statements within an atomic block, each of which knows what those before it declare.
@@ -89,7 +70,9 @@ fn inner_ghosts<'s, 'a>(
     before: Counters,
     all: &'a [GhostStmt],
 ) -> Result<InnerRow, AllocError>
-    ensures typed { IfOk result (λ r. seen r ≡ typed_inner_ghosts (at (set setting.entry) (known variables.old)) (stands before) (ghosts_of (map view.ghost all.now))) }
+    ensures typed { IfOk result (λ r. seen r ≡
+        typed_inner_ghosts (at (set setting.entry) (known variables.old)) (stands before) (ghosts_of
+        (map view.ghost all.now))) }
     ensures kept { OnOk result (known variables.new ≡ known variables.old) }
 {
     let count = variables.count();
@@ -106,15 +89,19 @@ fn inner_ghosts<'s, 'a>(
 /// An assignment within an atomic block.
 fn assignment<'s, 'a>(
     alloc: Global,
-    around: Around<'s, 'a>,
+    setting: Setting<'s, 'a>,
+    variables: &Variables<'a>,
     before: Counters,
-    span: Span,
+    line: u32,
     x: &'a Assignment,
 ) -> Result<InnerRow, AllocError>
-    ensures { IfOk result (λ r. seen r ≡ single_inner (stands before) (t.Inside span.line (t.Assign (spec.target (here around.entry) (view.assignment x.now).left) (spec.changed (here around.entry) (view.assignment x.now).left (view.assignment x.now).effect)))) }
+    ensures { IfOk result (λ r. let a = at (set setting.entry) (known variables.now) in let y = view.assignment x.now in seen r ≡
+        single_inner (stands before) (t.Inside line (t.Assign (spec.target a y.left)
+        (spec.changed a y.left y.effect)))) }
 {
-    let change = inner_assigned(alloc, around, x)?;
-    InnerRow::simple(alloc, before, span.line, change)
+    let none = Quantified::Nothing;
+    let change = inner_assigned(alloc, setting.around(variables, &none), x)?;
+    InnerRow::single(alloc, before, Inner::Inside(line, change))
 }
 
 /// What stands in no atomic block.
@@ -134,33 +121,17 @@ fn inner_statement<'s, 'a>(
     before: Counters,
     x: &'a Stmt,
 ) -> Result<InnerRow, AllocError>
-    ensures typed { IfOk result (λ r. seen r ≡ typed_inner (at (set setting.entry) (known variables.old)) (stands before) (view.stm x.now)) }
+    ensures typed { IfOk result (λ r. seen r ≡
+        typed_inner (at (set setting.entry) (known variables.old)) (stands before) (view.stm x.now)) }
     ensures kept { OnOk result (known variables.new ≡ known variables.old) }
 {
-    let none = Quantified::Nothing;
     match x {
         Stmt::Block(_, all, _) => inner_statements(alloc, setting, variables, before, all),
         Stmt::Assign(span, change) => {
-            let around = setting.around(variables, &none);
-            assignment(alloc, around, before, *span, change)
+            assignment(alloc, setting, variables, before, span.line, change)
         }
         Stmt::Ghost(_, inner) => inner_ghost(alloc, setting, variables, before, inner),
-        Stmt::Skip(_) => no_inner_statement(alloc, before, x),
-        Stmt::Declare(_, _, _, _) => no_inner_statement(alloc, before, x),
-        Stmt::Call(_, _) => no_inner_statement(alloc, before, x),
-        Stmt::If(_, _, _) => no_inner_statement(alloc, before, x),
-        Stmt::IfElse(_, _, _, _) => no_inner_statement(alloc, before, x),
-        Stmt::While(_, _, _, _) => no_inner_statement(alloc, before, x),
-        Stmt::Do(_, _, _, _, _) => no_inner_statement(alloc, before, x),
-        Stmt::For(_, _, _, _, _, _) => no_inner_statement(alloc, before, x),
-        Stmt::Return(_, _) => no_inner_statement(alloc, before, x),
-        Stmt::Spawn(_, _) => no_inner_statement(alloc, before, x),
-        Stmt::Free(_, _) => no_inner_statement(alloc, before, x),
-        Stmt::Assert(_, _) => no_inner_statement(alloc, before, x),
-        Stmt::Wrap(_, _) => no_inner_statement(alloc, before, x),
-        Stmt::Unwrap(_, _) => no_inner_statement(alloc, before, x),
-        Stmt::Unwrapping(_, _, _, _) => no_inner_statement(alloc, before, x),
-        Stmt::Atomic(_, _, _, _) => no_inner_statement(alloc, before, x),
+        _ => no_inner_statement(alloc, before, x),
     }
 }
 
@@ -173,7 +144,8 @@ pub fn inner_statements<'s, 'a>(
     before: Counters,
     all: &'a [Stmt],
 ) -> Result<InnerRow, AllocError>
-    ensures typed { IfOk result (λ r. seen r ≡ typed_inners (at (set setting.entry) (known variables.old)) (stands before) (stms_of (map view.stm all.now))) }
+    ensures typed { IfOk result (λ r. seen r ≡
+        typed_inners (at (set setting.entry) (known variables.old)) (stands before) (stms_of (map view.stm all.now))) }
     ensures kept { OnOk result (known variables.new ≡ known variables.old) }
 {
     let count = variables.count();

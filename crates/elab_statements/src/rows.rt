@@ -1,9 +1,9 @@
 //! Statements in a row.
 
-ghost use Rattle.std.specs.Prelude.{◌≡◌, IfOk};
+ghost use Rattle.std.specs.Prelude.{◌≡◌, IfOk, option_map};
 ghost use Rattle.elab_assignments.specs.Views.{before};
-ghost use Rattle.typed_program.specs.Trees as t;
 ghost use Rattle.typed_program.specs.Views as view;
+ghost use Rattle.elab_statements.specs.Forms.{done as acted, done_inner as changed};
 ghost use Rattle.elab_statements.specs.Rows.{row, inner, nothing as none, single as one, appended, no_inner, single_inner, appended_inner};
 
 use elab_assignments::counters::Counters;
@@ -44,16 +44,29 @@ impl Row {
         Ok(Row { statements, next })
     }
 
-    /// One action.
-    pub fn action(
+    /// An action, if there is one.
+    pub fn done(
         alloc: Global,
         next: Counters,
         line: u32,
-        action: Action,
+        action: Option<Action>,
     ) -> Result<Row, AllocError>
-        ensures { IfOk result (λ r. row r ≡ one (before next) (t.Do line (view.action action))) }
+        ensures { IfOk result (λ r. row r ≡ acted (before next) line (option_map view.action action)) }
     {
-        Row::single(alloc, next, Stmt::Do(line, action))
+        match action {
+            Some(action) => Row::single(alloc, next, Stmt::Do(line, action)),
+            None => Ok(Row::nothing(alloc, next)),
+        }
+    }
+
+    /// With a statement behind it, behind which so much stands.
+    #[tactic(auto, using(crate::proofs::Vectors::stmts_append))]
+    pub fn followed_by(self, next: Counters, statement: Stmt) -> Result<Row, AllocError>
+        ensures { IfOk result (λ r. row r ≡ appended (row self) (one (before next) (view.stmt statement))) }
+    {
+        let mut statements = self.statements;
+        statements.push(statement)?;
+        Ok(Row { statements, next })
     }
 
     /// With those of a row behind it.
@@ -89,16 +102,19 @@ impl InnerRow {
         Ok(InnerRow { statements, next })
     }
 
-    /// One statement that holds no others.
-    pub fn simple(
+    /// A change, if there is one.
+    pub fn done(
         alloc: Global,
         next: Counters,
         line: u32,
-        simple: Simple,
+        change: Option<Simple>,
     ) -> Result<InnerRow, AllocError>
-        ensures { IfOk result (λ r. inner r ≡ single_inner (before next) (t.Inside line (view.simple simple))) }
+        ensures { IfOk result (λ r. inner r ≡ changed (before next) line (option_map view.simple change)) }
     {
-        InnerRow::single(alloc, next, Inner::Inside(line, simple))
+        match change {
+            Some(change) => InnerRow::single(alloc, next, Inner::Inside(line, change)),
+            None => Ok(InnerRow::nothing(alloc, next)),
+        }
     }
 
     /// With those of a row behind it.

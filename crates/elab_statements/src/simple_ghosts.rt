@@ -1,199 +1,155 @@
 //! Ghost statements that hold no others.
 
 ghost use Rattle.std.specs.Prelude.{◌≡◌, IfOk, option_map};
-ghost use Rattle.c_syntax.specs.Ghosts as g;
 ghost use Rattle.c_syntax.specs.Views as view;
 ghost use Rattle.elab_code.specs.Views.{around as here};
 ghost use Rattle.elab_assignments.specs.Views.{before as stands};
-ghost use Rattle.typed_program.specs.Codes as codes;
-ghost use Rattle.typed_program.specs.Numbers as numbers;
-ghost use Rattle.typed_program.specs.Statements as spec;
+ghost use Rattle.typing_symbols.specs.Scopes.{known};
 ghost use Rattle.typed_program.specs.Trees as t;
-ghost use Rattle.elab_statements.specs.Rows.{row, single, typed_ghost, inner, single_inner};
+ghost use Rattle.typed_program.specs.Views as program;
+ghost use Rattle.elab_statements.specs.Forms.{ghost_action, ghost_action_row, ghost_change, ghost_declared, inner_change_row as inner_typed};
+ghost use Rattle.elab_statements.specs.Rows.{row, inner};
+ghost use Rattle.elab_statements.specs.Settings.{setting as set, at};
 
-use crate::counts::{behind_end, behind_right, behind_some};
+use crate::counts::behind_ghost;
 use crate::rows::{InnerRow, Row};
-use c_syntax::expressions::{Expr, Identifier, ValueType};
-use c_syntax::ghosts::{GhostRight, OwnsChange};
-use c_syntax::token::Span;
+use crate::settings::Setting;
+use c_syntax::expressions::{Identifier, ValueType};
+use c_syntax::ghosts::{GhostRight, GhostStmt};
 use elab_assignments::counters::Counters;
 use elab_assignments::ghosts::{claim_end, ghost_assigned, ghost_right, owned_change};
 use elab_assignments::objects::wrapped;
 use elab_assignments::places::variable;
 use elab_assignments::values::code;
 use elab_code::around::Around;
-use method::program::Action;
+use method::program::{Action, Simple};
 use std::alloc::{AllocError, Global};
-
-/// A declaration without first value.
-fn bare_declaration(
-    alloc: Global,
-    around: Around<'_, '_>,
-    before: Counters,
-    line: u32,
-    name: &Identifier,
-) -> Result<Row, AllocError>
-    ensures { IfOk result (λ r. row r ≡ single (stands before) (t.Do line (t.Declare (spec.variable (here around.entry) (view.id name.now))))) }
-{
-    let number = variable(around, name)?;
-    Row::action(alloc, before, line, Action::Declare(number))
-}
-
-/// A declaration with one.
-fn definition<'s, 'a>(
-    alloc: Global,
-    around: Around<'s, 'a>,
-    before: Counters,
-    line: u32,
-    ty: &'a ValueType,
-    name: &'a Identifier,
-    first: &'a GhostRight,
-) -> Result<Row, AllocError>
-    ensures { IfOk result (λ r. row r ≡ single (spec.plus (stands before) (spec.in_claim (view.ghost_rhs first.now))) (t.Do line (t.Define (spec.variable (here around.entry) (view.id name.now)) (spec.ghost_right (here around.entry) (stands before) (view.ty ty.now) (view.ghost_rhs first.now))))) }
-{
-    let next = behind_right(before, first)?;
-    let number = variable(around, name)?;
-    let value = ghost_right(alloc, around, before, ty, first)?;
-    Row::action(alloc, next, line, Action::Define(number, value))
-}
+use typing_expressions::context::Quantified;
+use typing_symbols::variables::Variables;
 
 /// A declaration.
-pub fn ghost_declaration<'s, 'a>(
+fn declared<'s, 'a>(
     alloc: Global,
     around: Around<'s, 'a>,
     before: Counters,
-    span: Span,
     ty: &'a ValueType,
     name: &'a Identifier,
     first: &'a Option<GhostRight>,
-) -> Result<Row, AllocError>
-    ensures { IfOk result (λ r. row r ≡ typed_ghost (here around.entry) (stands before) (g.Declare span (view.ty ty.now) (view.id name.now) (option_map view.ghost_rhs first.now))) }
+) -> Result<Action, AllocError>
+    ensures { IfOk result (λ v. program.action v ≡
+        ghost_declared (here around.entry) (stands before) (view.ty ty.now) (view.id name.now) (option_map view.ghost_rhs first.now)) }
 {
+    let number = variable(around, name)?;
     match first {
-        None => bare_declaration(alloc, around, before, span.line, name),
-        Some(value) => definition(alloc, around, before, span.line, ty, name, value),
+        None => Ok(Action::Declare(number)),
+        Some(value) => {
+            let value = ghost_right(alloc, around, before, ty, value)?;
+            Ok(Action::Define(number, value))
+        }
     }
 }
 
-/// An assignment.
-pub fn ghost_assignment<'s, 'a>(
+/// The change that a ghost statement is, if it is one that may also stand in an atomic block.
+fn change_of<'s, 'a>(
     alloc: Global,
     around: Around<'s, 'a>,
     before: Counters,
-    line: u32,
-    left: &'a Expr,
-    value: &'a GhostRight,
-) -> Result<Row, AllocError>
-    ensures { IfOk result (λ r. row r ≡ single (spec.plus (stands before) (spec.in_claim (view.ghost_rhs value.now))) (t.Do line (t.Simply (spec.ghost_assigned (here around.entry) (stands before) (view.exp left.now) (view.ghost_rhs value.now))))) }
+    x: &'a GhostStmt,
+) -> Result<Option<Simple>, AllocError>
+    ensures { IfOk result (λ v. option_map program.simple v ≡
+        ghost_change (here around.entry) (stands before) (view.ghost x.now)) }
 {
-    let next = behind_right(before, value)?;
-    let change = ghost_assigned(alloc, around, before, left, value)?;
-    Row::action(alloc, next, line, Action::Simply(change))
+    match x {
+        GhostStmt::Assign(_, left, _, value) => {
+            let simple = ghost_assigned(alloc, around, before, left, value)?;
+            Ok(Some(simple))
+        }
+        GhostStmt::Owns(_, left, _, members) => {
+            let simple = owned_change(alloc, around, left, members)?;
+            Ok(Some(simple))
+        }
+        GhostStmt::DestroyClaim(_, claim, objects) => {
+            let simple = claim_end(alloc, around, before, claim, objects)?;
+            Ok(Some(simple))
+        }
+        _ => Ok(None),
+    }
 }
 
-/// A change of an owned set.
-pub fn owned_set_change<'s, 'a>(
-    alloc: Global,
-    around: Around<'s, 'a>,
-    before: Counters,
-    line: u32,
-    left: &'a Expr,
-    change: &'a OwnsChange,
-) -> Result<Row, AllocError>
-    ensures { IfOk result (λ r. row r ≡ single (stands before) (t.Do line (t.Simply (spec.owned_change (here around.entry) (view.exp left.now) (view.owns change.now))))) }
+/// A change as an action.
+fn simply(change: Option<Simple>) -> Option<Action>
+    ensures { option_map program.action result ≡ option_map t.Simply (option_map program.simple change) }
 {
-    let change = owned_change(alloc, around, left, change)?;
-    Row::action(alloc, before, line, Action::Simply(change))
+    match change {
+        Some(simple) => Some(Action::Simply(simple)),
+        None => None,
+    }
 }
 
-/// The end of a claim.
-pub fn destroyed<'s, 'a>(
+/// The action that a ghost statement is, if it holds no others.
+fn action_of<'s, 'a>(
     alloc: Global,
     around: Around<'s, 'a>,
     before: Counters,
-    line: u32,
-    claim: &'a Expr,
-    objects: &'a [Expr],
-) -> Result<Row, AllocError>
-    ensures { IfOk result (λ r. row r ≡ single (spec.plus (stands before) (record spec.none { ended = 1 })) (t.Do line (t.Simply (spec.claim_end (here around.entry) (stands before) (view.exp claim.now) (view.exps objects.now))))) }
+    x: &'a GhostStmt,
+) -> Result<Option<Action>, AllocError>
+    ensures { IfOk result (λ v. option_map program.action v ≡
+        ghost_action (here around.entry) (stands before) (view.ghost x.now)) }
 {
-    let next = behind_end(before)?;
-    let change = claim_end(alloc, around, before, claim, objects)?;
-    Row::action(alloc, next, line, Action::Simply(change))
+    match x {
+        GhostStmt::Declare(_, ty, name, first) => {
+            let declaration = declared(alloc, around, before, ty, name, first)?;
+            Ok(Some(declaration))
+        }
+        GhostStmt::Wrap(_, object) => {
+            let wrap = wrapped(alloc, around, before, object)?;
+            Ok(Some(wrap))
+        }
+        GhostStmt::Unwrap(_, object) => {
+            let value = code(alloc, around, object)?;
+            Ok(Some(Action::UnwrapObject(value)))
+        }
+        _ => {
+            let simple = change_of(alloc, around, before, x)?;
+            Ok(simply(simple))
+        }
+    }
 }
 
-/// A wrap.
-pub fn wrap<'s, 'a>(
+/// A ghost statement that holds no others, with its line; of any other nothing.
+pub fn action_row<'s, 'a>(
     alloc: Global,
-    around: Around<'s, 'a>,
+    setting: Setting<'s, 'a>,
+    variables: &Variables<'a>,
     before: Counters,
     line: u32,
-    object: &'a Expr,
+    x: &'a GhostStmt,
 ) -> Result<Row, AllocError>
-    ensures { IfOk result (λ r. row r ≡ single (spec.plus (stands before) (spec.some_formulas 1)) (t.Do line (t.WrapObject (numbers.struct_at (here around.entry) (view.exp object.now)) (stands before).formulas (codes.code (here around.entry) (view.exp object.now))))) }
+    ensures { IfOk result (λ r. row r ≡
+        ghost_action_row (at (set setting.entry) (known variables.now)) (stands before) line (view.ghost x.now)) }
 {
-    let next = behind_some(before, 1)?;
-    let action = wrapped(alloc, around, before, object)?;
-    Row::action(alloc, next, line, action)
+    let none = Quantified::Nothing;
+    let around = setting.around(variables, &none);
+    let next = behind_ghost(before, x)?;
+    let action = action_of(alloc, around, before, x)?;
+    Row::done(alloc, next, line, action)
 }
 
-/// An unwrap.
-pub fn unwrap<'s, 'a>(
+/// A ghost statement within an atomic block that holds no others, with its line; of any other nothing.
+pub fn inner_change_row<'s, 'a>(
     alloc: Global,
-    around: Around<'s, 'a>,
+    setting: Setting<'s, 'a>,
+    variables: &Variables<'a>,
     before: Counters,
     line: u32,
-    object: &'a Expr,
-) -> Result<Row, AllocError>
-    ensures { IfOk result (λ r. row r ≡ single (stands before) (t.Do line (t.UnwrapObject (codes.code (here around.entry) (view.exp object.now))))) }
-{
-    let object = code(alloc, around, object)?;
-    Row::action(alloc, before, line, Action::UnwrapObject(object))
-}
-
-/// An assignment within an atomic block.
-pub fn inner_assignment<'s, 'a>(
-    alloc: Global,
-    around: Around<'s, 'a>,
-    before: Counters,
-    line: u32,
-    left: &'a Expr,
-    value: &'a GhostRight,
+    x: &'a GhostStmt,
 ) -> Result<InnerRow, AllocError>
-    ensures { IfOk result (λ r. inner r ≡ single_inner (spec.plus (stands before) (spec.in_claim (view.ghost_rhs value.now))) (t.Inside line (spec.ghost_assigned (here around.entry) (stands before) (view.exp left.now) (view.ghost_rhs value.now)))) }
+    ensures { IfOk result (λ r. inner r ≡
+        inner_typed (at (set setting.entry) (known variables.now)) (stands before) line (view.ghost x.now)) }
 {
-    let next = behind_right(before, value)?;
-    let change = ghost_assigned(alloc, around, before, left, value)?;
-    InnerRow::simple(alloc, next, line, change)
-}
-
-/// A change of an owned set within an atomic block.
-pub fn inner_set_change<'s, 'a>(
-    alloc: Global,
-    around: Around<'s, 'a>,
-    before: Counters,
-    line: u32,
-    left: &'a Expr,
-    change: &'a OwnsChange,
-) -> Result<InnerRow, AllocError>
-    ensures { IfOk result (λ r. inner r ≡ single_inner (stands before) (t.Inside line (spec.owned_change (here around.entry) (view.exp left.now) (view.owns change.now)))) }
-{
-    let change = owned_change(alloc, around, left, change)?;
-    InnerRow::simple(alloc, before, line, change)
-}
-
-/// The end of a claim within an atomic block.
-pub fn inner_destroyed<'s, 'a>(
-    alloc: Global,
-    around: Around<'s, 'a>,
-    before: Counters,
-    line: u32,
-    claim: &'a Expr,
-    objects: &'a [Expr],
-) -> Result<InnerRow, AllocError>
-    ensures { IfOk result (λ r. inner r ≡ single_inner (spec.plus (stands before) (record spec.none { ended = 1 })) (t.Inside line (spec.claim_end (here around.entry) (stands before) (view.exp claim.now) (view.exps objects.now)))) }
-{
-    let next = behind_end(before)?;
-    let change = claim_end(alloc, around, before, claim, objects)?;
-    InnerRow::simple(alloc, next, line, change)
+    let none = Quantified::Nothing;
+    let around = setting.around(variables, &none);
+    let next = behind_ghost(before, x)?;
+    let change = change_of(alloc, around, before, x)?;
+    InnerRow::done(alloc, next, line, change)
 }

@@ -13,13 +13,10 @@ ghost use Rattle.elab_statements.specs.Settings.{setting as set, at};
 use crate::choices::{if_else_row, if_row};
 use crate::ghosts::ghost_statement;
 use crate::inner::inner_statements;
-use crate::loops::{atomic_row, do_row, for_row, unwrapping_row, while_row};
+use crate::loops::{atomic_row, loop_row, unwrapping_row};
 use crate::rows::Row;
 use crate::settings::Setting;
-use crate::simple::{
-    assertion, assignment, call, declaration, free, maybe_assigned, return_row, spawn,
-};
-use crate::simple_ghosts::{unwrap, wrap};
+use crate::simple::{action_row, simple_row};
 use c_syntax::statements::Stmt;
 use elab_assignments::counters::Counters;
 use elab_clauses::numbering::{Numbering, invariants};
@@ -38,37 +35,26 @@ pub fn statement<'s, 'a>(
     before: Counters,
     x: &'a Stmt,
 ) -> Result<Row, AllocError>
-    ensures typed { IfOk result (λ r. row r ≡ typed_statement (shaped numbering.entry) (at (set setting.entry) (known variables.old)) (stands before) (view.stm x.now)) }
+    ensures typed { IfOk result (λ r. row r ≡
+        typed_statement (shaped numbering.entry) (at (set setting.entry) (known variables.old))
+        (stands before) (view.stm x.now)) }
     ensures kept { OnOk result (known variables.new ≡ known variables.old) }
 {
-    let none = Quantified::Nothing;
     match x {
         Stmt::Block(_, all, _) => statements(alloc, setting, numbering, variables, before, all),
-        Stmt::Skip(_) => Ok(Row::nothing(alloc, before)),
-        Stmt::Declare(span, ty, name, first) => {
-            let around = setting.around(variables, &none);
-            declaration(alloc, around, before, span.line, ty, name, first)
-        }
-        Stmt::Assign(span, change) => {
-            let around = setting.around(variables, &none);
-            assignment(alloc, around, before, span.line, change)
-        }
-        Stmt::Call(span, called) => {
-            let around = setting.around(variables, &none);
-            call(alloc, around, before, span.line, called)
-        }
         Stmt::If(span, test, yes) => {
             let inner = statement(alloc, setting, numbering, variables, before, yes)?;
-            let around = setting.around(variables, &none);
-            if_row(alloc, around, span.line, false, test, inner)
+            if_row(alloc, setting, variables, span.line, false, test, inner)
         }
         Stmt::IfElse(span, test, first, second) => {
             let yes = statement(alloc, setting, numbering, variables, before, first)?;
             let no = statement(alloc, setting, numbering, variables, yes.next, second)?;
-            let around = setting.around(variables, &none);
-            if_else_row(alloc, around, span.line, false, test, yes, no)
+            if_else_row(alloc, setting, variables, span.line, false, test, yes, no)
         }
-        Stmt::While(span, test, all, body) => {
+        Stmt::While(_, _, all, body)
+        | Stmt::Do(_, all, body, _, _)
+        | Stmt::For(_, _, _, _, all, body) => {
+            let none = Quantified::Nothing;
             let around = setting.around(variables, &none);
             let told = invariants(alloc, around, numbering, before.formulas, all)?;
             let start = Counters {
@@ -76,78 +62,38 @@ pub fn statement<'s, 'a>(
                 ..before
             };
             let inner = statement(alloc, setting, numbering, variables, start, body)?;
-            let around = setting.around(variables, &none);
-            while_row(alloc, around, span.line, told.specs, test, inner)
-        }
-        Stmt::Do(span, all, body, tested, test) => {
-            let around = setting.around(variables, &none);
-            let told = invariants(alloc, around, numbering, before.formulas, all)?;
-            let start = Counters {
-                formulas: told.next,
-                ..before
-            };
-            let inner = statement(alloc, setting, numbering, variables, start, body)?;
-            let around = setting.around(variables, &none);
-            do_row(
-                alloc,
-                around,
-                span.line,
-                told.specs,
-                inner,
-                tested.line,
-                test,
-            )
-        }
-        Stmt::For(span, before_it, test, after, all, body) => {
-            let around = setting.around(variables, &none);
-            let front = maybe_assigned(alloc, around, before, before_it)?;
-            let told = invariants(alloc, around, numbering, before.formulas, all)?;
-            let start = Counters {
-                formulas: told.next,
-                ..before
-            };
-            let inner = statement(alloc, setting, numbering, variables, start, body)?;
-            let around = setting.around(variables, &none);
-            for_row(
-                alloc, around, span.line, front, told.specs, test, inner, after,
-            )
-        }
-        Stmt::Return(span, value) => {
-            let around = setting.around(variables, &none);
-            return_row(alloc, around, before, span.line, value)
-        }
-        Stmt::Spawn(span, called) => {
-            let around = setting.around(variables, &none);
-            spawn(alloc, around, before, span.line, called)
-        }
-        Stmt::Free(span, pointer) => {
-            let around = setting.around(variables, &none);
-            free(alloc, around, before, span.line, pointer)
-        }
-        Stmt::Assert(span, property) => {
-            let around = setting.around(variables, &none);
-            assertion(alloc, around, numbering, before, span.line, property)
+            loop_row(alloc, setting, variables, before, x, told.specs, inner)
         }
         Stmt::Ghost(_, inner) => ghost_statement(alloc, setting, variables, before, inner),
-        Stmt::Wrap(span, object) => {
-            let around = setting.around(variables, &none);
-            wrap(alloc, around, before, span.line, object)
-        }
-        Stmt::Unwrap(span, object) => {
-            let around = setting.around(variables, &none);
-            unwrap(alloc, around, before, span.line, object)
-        }
         Stmt::Unwrapping(span, object, all, _) => {
             let start = before.with_formulas(1)?;
             let inner = statements(alloc, setting, numbering, variables, start, all)?;
-            let around = setting.around(variables, &none);
-            unwrapping_row(alloc, around, span.line, before.formulas, object, inner)
+            unwrapping_row(
+                alloc,
+                setting,
+                variables,
+                span.line,
+                before.formulas,
+                object,
+                inner,
+            )
         }
         Stmt::Atomic(span, objects, all, _) => {
             let inner = inner_statements(alloc, setting, variables, before, all)?;
-            let around = setting.around(variables, &none);
-            atomic_row(alloc, around, span.line, objects, inner)
+            atomic_row(alloc, setting, variables, span.line, objects, inner)
         }
+        Stmt::Spawn(span, _)
+        | Stmt::Free(span, _)
+        | Stmt::Assert(span, _)
+        | Stmt::Wrap(span, _)
+        | Stmt::Unwrap(span, _) => action_row(
+            alloc, setting, variables, numbering, before, span.line, x,
+        ),
+        Stmt::Skip(_)
+        | Stmt::Declare(_, _, _, _)
+        | Stmt::Assign(_, _)
+        | Stmt::Call(_, _)
+        | Stmt::Return(_, _) => simple_row(alloc, setting, variables, before, x),
     }
 }
 
@@ -161,7 +107,9 @@ pub fn statements<'s, 'a>(
     before: Counters,
     all: &'a [Stmt],
 ) -> Result<Row, AllocError>
-    ensures typed { IfOk result (λ r. row r ≡ typed_statements (shaped numbering.entry) (at (set setting.entry) (known variables.old)) (stands before) (stms_of (map view.stm all.now))) }
+    ensures typed { IfOk result (λ r. row r ≡
+        typed_statements (shaped numbering.entry) (at (set setting.entry) (known variables.old))
+        (stands before) (stms_of (map view.stm all.now))) }
     ensures kept { OnOk result (known variables.new ≡ known variables.old) }
 {
     let count = variables.count();

@@ -1,6 +1,7 @@
 -- What is read of a statement before the first that it holds, and what is left behind that.
-use Rattle.std.proofs.Common.{◌≡◌, ℕ, suc, ◌+◌, ◌≤◌, max, List, Option, Result, Ok, Err, refl, ap, sym, ◌∙◌, subst, arith}
+use Rattle.std.proofs.Common.{◌≡◌, ℕ, suc, ◌+◌, ◌≤◌, max, List, Option, Result, Ok, Err, refl, ap, sym, ◌∙◌, subst, arith, Box}
 use Rattle.std.specs.Prelude.{IfOk}
+use Rattle.std.specs.declared.alloc.Global.{Global}
 use Rattle.ebnf.specs.Rules.{below, row, nothing, form}
 use Rattle.ebnf.specs.Reading.{Out, TooDeep, on, take, read, read_rule, reads}
 use denote.Bor.{Bor}
@@ -12,7 +13,6 @@ use Rattle.c_syntax.specs.declared.statements.Stmt.{Stmt}
 use Rattle.c_syntax.specs.Classes.{key, sign}
 use Rattle.c_syntax.specs.Lexing.{Lexeme}
 use Rattle.c_syntax.specs.Language.{language}
-use Rattle.c_syntax.specs.Views.{stm}
 use Rattle.c_syntax.specs.Expressions.{Exp, Assignment}
 use Rattle.c_syntax.specs.Statements as st
 use Rattle.c_syntax.specs.Statements.{Braces, Stm}
@@ -23,6 +23,7 @@ use Rattle.reader_expressions.specs.declared.reading.ReadFault.{ReadFault}
 use Rattle.reader_expressions.specs.declared.reading.ReadFault.TheVariants as f
 use Rattle.reader_expressions.specs.Reading.{Gives, lexemes, part, rule_at, one_token}
 use Rattle.reader_statements.specs.declared.blocks.Front.{Front}
+use Rattle.reader_statements.specs.Views.{in_box}
 use Rattle.reader_statements.specs.Fronts.{Begins, above, as_front, if_end, for_test}
 use Rattle.reader_statements.specs.Rows.{annotation, assigned_part, at_span, higher, unwrapping, atomic, branch, while_loop, do_loop, do_end, for_loop}
 
@@ -196,32 +197,32 @@ same_begins room r out whole e b = subst (λ o. Begins room r o) (sym e) b
 pub high_begins : (room : ℕ) (e : ReadFault) (tokens : Bor (List Token)) (whole : Out language Stm) → e ≡ f.TooDeep tokens → whole ≡ Err (TooDeep, lexemes tokens.now) → Begins room (Err e) whole
 high_begins room e tokens whole is q = subst (λ x. Begins room (Err x) whole) (sym is) q
 
-pub begun_err : (room : ℕ) (e : ReadFault) (out whole : Out language Stm) → whole ≡ out → Begins room (Err e) out → Gives {X = Stmt} stm (Err e) whole
+pub begun_err : (room : ℕ) (e : ReadFault) (out whole : Out language Stm) → whole ≡ out → Begins room (Err e) out → Gives {X = Box Stmt Global} in_box (Err e) whole
 begun_err room (f.Unexpected rest) out whole is b = is ∙ b
 begun_err room (f.TooDeep rest) out whole is b = is ∙ b
 begun_err room f.OutOfMemory out whole is b = tt
 
-front_begins : (room : ℕ) (r : Result (Parsed Stmt) ReadFault) (out : Out language Stm) → Gives stm r out → Begins room (as_front r) out
+front_begins : (room : ℕ) (r : Result (Parsed (Box Stmt Global)) ReadFault) (out : Out language Stm) → Gives in_box r out → Begins room (as_front r) out
 front_begins room (Ok p) out b = b
 front_begins room (Err (f.Unexpected rest)) out b = b
 front_begins room (Err (f.TooDeep rest)) out b = b
 front_begins room (Err f.OutOfMemory) out b = b
 
-pub whole_begins : (room : ℕ) (r : Result (Parsed Stmt) ReadFault) (s : Result (Parsed Front) ReadFault) (out whole : Out language Stm) → s ≡ as_front r → whole ≡ out → Gives stm r out → Begins room s whole
+pub whole_begins : (room : ℕ) (r : Result (Parsed (Box Stmt Global)) ReadFault) (s : Result (Parsed Front) ReadFault) (out whole : Out language Stm) → s ≡ as_front r → whole ≡ out → Gives in_box r out → Begins room s whole
 whole_begins room r s out whole e is b = same_begins room s out whole is (subst (λ x. Begins room x out) (sym e) (front_begins room r out b))
 
-front_low : (n : ℕ) (r : Result (Parsed Stmt) ReadFault) → IfOk r (λ x. x.height ≤ n) → IfOk (as_front r) (λ x. x.height ≤ n)
+front_low : (n : ℕ) (r : Result (Parsed (Box Stmt Global)) ReadFault) → IfOk r (λ x. x.height ≤ n) → IfOk (as_front r) (λ x. x.height ≤ n)
 front_low n (Ok p) h = h
 front_low n (Err e) h = h
 
-pub whole_low : (n : ℕ) (r : Result (Parsed Stmt) ReadFault) (s : Result (Parsed Front) ReadFault) → s ≡ as_front r → IfOk r (λ x. x.height ≤ n) → IfOk s (λ x. x.height ≤ n)
+pub whole_low : (n : ℕ) (r : Result (Parsed (Box Stmt Global)) ReadFault) (s : Result (Parsed Front) ReadFault) → s ≡ as_front r → IfOk r (λ x. x.height ≤ n) → IfOk s (λ x. x.height ≤ n)
 whole_low n r s e h = subst (λ (x : Result (Parsed Front) ReadFault). IfOk x (λ y. y.height ≤ n)) (sym e) (front_low n r h)
 
-one_low : (n : ℕ) (r : Result (Parsed Stmt) ReadFault) → IfOk r (λ x. x.height ≡ 1) → IfOk r (λ x. x.height ≤ n + 1)
+one_low : (n : ℕ) (r : Result (Parsed (Box Stmt Global)) ReadFault) → IfOk r (λ x. x.height ≡ 1) → IfOk r (λ x. x.height ≤ n + 1)
 one_low n (Ok p) h = omega (arith, h)
 one_low n (Err e) h = h
 
-pub skip_low : (n : ℕ) (r : Result (Parsed Stmt) ReadFault) (s : Result (Parsed Front) ReadFault) → s ≡ as_front r → IfOk r (λ x. x.height ≡ 1) → IfOk s (λ x. x.height ≤ n + 1)
+pub skip_low : (n : ℕ) (r : Result (Parsed (Box Stmt Global)) ReadFault) (s : Result (Parsed Front) ReadFault) → s ≡ as_front r → IfOk r (λ x. x.height ≡ 1) → IfOk s (λ x. x.height ≤ n + 1)
 skip_low n r s e h = whole_low (n + 1) r s e (one_low n r h)
 
 -- ---- one call after the other

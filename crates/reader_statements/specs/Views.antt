@@ -1,8 +1,14 @@
 -- What the values that are read stand for.
-use Rattle.std.specs.Prelude.{List, map}
+use Rattle.std.specs.Prelude.{List, map, Option}
+use Rattle.std.specs.Option.{option_map}
+use Rattle.std.specs.declared.alloc.Global.{Global}
+use Rattle.std.proofs.Common.{Box}
 use Rattle.c_syntax.specs.declared.token.Span.{Span}
 use Rattle.c_syntax.specs.declared.expressions.Expr.{Expr}
-use Rattle.c_syntax.specs.Views.{exp, exps, invariant, stm, stms}
+use Rattle.c_syntax.specs.declared.expressions.Assignment as trees
+use Rattle.c_syntax.specs.declared.statements.Stmt.{Stmt}
+use Rattle.c_syntax.specs.Expressions.{Assignment}
+use Rattle.c_syntax.specs.Views.{exp, exps, assignment, invariant, stm, stms}
 use Rattle.c_syntax.specs.Statements as st
 use Rattle.c_syntax.specs.Statements.{Braces, Inv, Stm}
 use Rattle.reader_statements.specs.declared.blocks.Block.{Block}
@@ -13,6 +19,14 @@ use Rattle.reader_statements.specs.declared.blocks.BlockFront.TheVariants as fro
 -- statements in braces
 abbrev pub braces : Block → Braces
 braces x = record { start = x.start; all = stms x.statements.items; end = x.end }
+
+-- a statement in a box
+abbrev pub in_box : Box Stmt Global → Stm
+in_box b = stm b.value
+
+-- an assignment in a box, if there is one
+abbrev pub maybe_boxed : Option (Box trees.Assignment Global) → Option Assignment
+maybe_boxed b = option_map assignment (option_map (λ (v : Box trees.Assignment Global). v.value) b)
 
 -- invariants, and the body behind them
 abbrev pub body : Body → List Inv × Stm

@@ -16,6 +16,7 @@ use reader_assignments::calls::code;
 use reader_assignments::ends::ended;
 use reader_expressions::expressions::list;
 use reader_expressions::levels::{Mode, Tier};
+use reader_expressions::memory::boxed;
 use reader_expressions::reading::{Parsed, ReadFault, Reading, fits};
 use reader_expressions::tokens::{take, take_key};
 use std::alloc::Global;
@@ -32,8 +33,9 @@ fn assertion<'a>(
     ensures low { IfOk result (λ x. x.height ≤ room + 1) }
 {
     let found = assert_tail(alloc, room, tokens)?;
+    let value = boxed(alloc, Stmt::Assert(span, found.value))?;
     Ok(Parsed {
-        value: Front::Whole(Stmt::Assert(span, found.value)),
+        value: Front::Whole(value),
         height: found.height + 1,
         rest: found.rest,
     })
@@ -51,8 +53,9 @@ fn ghost_statement<'a>(
     ensures low { IfOk result (λ x. x.height ≤ room + 1) }
 {
     let found = ghost_tail(alloc, room, tokens)?;
+    let value = boxed(alloc, Stmt::Ghost(span, found.value))?;
     Ok(Parsed {
-        value: Front::Whole(Stmt::Ghost(span, found.value)),
+        value: Front::Whole(value),
         height: found.height + 1,
         rest: found.rest,
     })
@@ -65,8 +68,9 @@ fn wrap<'a>(alloc: Global, span: Span, room: u32, tokens: &'a [Token<'a>]) -> Re
     ensures low { IfOk result (λ x. x.height ≤ room + 1) }
 {
     let found = wrap_tail(alloc, room, tokens)?;
+    let value = boxed(alloc, Stmt::Wrap(span, found.value))?;
     Ok(Parsed {
-        value: Front::Whole(Stmt::Wrap(span, found.value)),
+        value: Front::Whole(value),
         height: found.height + 1,
         rest: found.rest,
     })
@@ -84,8 +88,9 @@ fn unwrap_statement<'a>(
     ensures low { IfOk result (λ x. x.height ≤ room + 1) }
 {
     let found = unwrap_tail(alloc, room, tokens)?;
+    let value = boxed(alloc, Stmt::Unwrap(span, found.value))?;
     Ok(Parsed {
-        value: Front::Whole(Stmt::Unwrap(span, found.value)),
+        value: Front::Whole(value),
         height: found.height + 1,
         rest: found.rest,
     })

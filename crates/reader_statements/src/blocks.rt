@@ -31,7 +31,7 @@ pub struct Body {
 pub enum LoopFront {
     While(Span, Expr),
     Do(Span),
-    For(Span, Option<Assignment>, Expr, Option<Assignment>),
+    For(Span, Option<Box<Assignment>>, Expr, Option<Box<Assignment>>),
 }
 
 /// What stands in an annotation in front of the block that belongs to it.
@@ -41,10 +41,11 @@ pub enum BlockFront {
     Atomic(Span, Vec<Expr>),
 }
 
-/// What is read of a statement before the first statement that it holds.
+/// What is read of a statement before the first statement that it holds. A whole statement is in a box, since each function
+/// that holds one by itself is proved case by case.
 pub enum Front {
     /// a statement that holds no other
-    Whole(Stmt),
+    Whole(Box<Stmt>),
     /// a block, of which nothing is read
     Block,
     /// `if` and its condition

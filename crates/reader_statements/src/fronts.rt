@@ -2,11 +2,11 @@
 
 ghost use Rattle.std.specs.Prelude.{◌≡◌, ◌≤◌, ◌<◌, ◌+◌, IfOk};
 ghost use Rattle.c_syntax.specs.Grammar as g;
-ghost use Rattle.c_syntax.specs.Views.{exp, assignment};
-ghost use Rattle.std.specs.Option.{option_map};
+ghost use Rattle.c_syntax.specs.Views.{exp};
 ghost use Rattle.reader_expressions.specs.Reading.{Gives, lexemes, part, rule_at};
 ghost use Rattle.reader_statements.specs.Fronts.{Begins, as_front, for_test as for_test_row};
 ghost use Rattle.reader_statements.specs.Rows as rows;
+ghost use Rattle.reader_statements.specs.Views.{maybe_boxed};
 
 use crate::annotations::annotation;
 use crate::blocks::{Front, LoopFront};
@@ -26,7 +26,7 @@ use std::alloc::Global;
 use tree_building::pair_with;
 
 /// A statement that holds no other, as a front.
-fn whole<'a>(found: Reading<'a, Stmt>) -> Reading<'a, Front>
+fn whole<'a>(found: Reading<'a, Box<Stmt>>) -> Reading<'a, Front>
     ensures { result ≡ as_front found.entry }
 {
     match found {
@@ -91,9 +91,9 @@ fn for_test<'a>(
     alloc: Global,
     room: u32,
     tokens: &'a [Token<'a>],
-) -> Reading<'a, (Expr, Option<Assignment>)>
+) -> Reading<'a, (Expr, Option<Box<Assignment>>)>
     requires room { room < 1000 }
-    ensures gives { Gives (λ x. (exp x.0, option_map assignment x.1)) result (part room for_test_row (lexemes tokens.now)) }
+    ensures gives { Gives (λ x. (exp x.0, maybe_boxed x.1)) result (part room for_test_row (lexemes tokens.now)) }
     ensures low { IfOk result (λ x. x.height ≤ room) }
 {
     let condition = code(alloc, room, tokens)?;
@@ -153,7 +153,7 @@ fn of_kind<'a>(alloc: Global, kind: Kind, room: u32, tokens: &'a [Token<'a>]) ->
 {
     match kind {
         Kind::Block => block_front(room, tokens),
-        Kind::Skip => whole(skip(tokens)),
+        Kind::Skip => whole(skip(alloc, tokens)),
         Kind::Declaration => whole(declaration(alloc, room, tokens)),
         Kind::Named => whole(named(alloc, room, tokens)),
         Kind::Other => whole(other(alloc, room, tokens)),

@@ -9,11 +9,10 @@ ghost use Rattle.c_syntax.specs.Grammar as g;
 ghost use Rattle.c_syntax.specs.Language.{language};
 ghost use Rattle.c_syntax.specs.Views as views;
 ghost use Rattle.reader_expressions.specs.Reading.{Gives, lexemes, part, rule_at, extended};
-ghost use Rattle.c_syntax.specs.Views.{stm};
 ghost use Rattle.reader_statements.specs.Fronts.{loop_end};
 ghost use Rattle.reader_statements.specs.Loops.{invariants as invariants_of};
 ghost use Rattle.reader_statements.specs.Rows as rows;
-ghost use Rattle.reader_statements.specs.Views.{body, do_end as end_of};
+ghost use Rattle.reader_statements.specs.Views.{body, do_end as end_of, in_box, maybe_boxed};
 ghost use Rattle.reader_statements.specs.declared.blocks.Body.{Body};
 ghost use Rattle.reader_statements.specs.declared.blocks.LoopFront.TheVariants as fronts;
 
@@ -25,7 +24,7 @@ use c_syntax::token::{Keyword, Sign, Span, Token};
 use reader_annotations::annotations::invariant_tail;
 use reader_assignments::assignments::assigned;
 use reader_assignments::ends::ended;
-use reader_expressions::memory::add;
+use reader_expressions::memory::{add, boxed};
 use reader_expressions::reading::{Parsed, ReadFault, Reading, fits};
 use reader_expressions::tokens::{
     is_sign, next_is, next_is_key, next_is_name, next_is_number, take, take_key,
@@ -58,21 +57,35 @@ fn do_loop<'a>(
     span: Span,
     height: u32,
     found: Parsed<'a, Body>,
-) -> Reading<'a, Stmt>
+) -> Reading<'a, Box<Stmt>>
     requires room { room < 1000 }
     requires high { height ≤ room + 1 }
     requires low { found.height ≤ room }
-    ensures gives { Gives stm result (loop_end room (fronts.Do span) height (body found.entry.value) found.entry.height (lexemes found.entry.rest.now)) }
+    ensures gives { Gives in_box result (loop_end room (fronts.Do span) height (body found.entry.value) found.entry.height (lexemes found.entry.rest.now)) }
     ensures low { IfOk result (λ x. x.height ≤ room + 1) }
 {
     let (held, end) = pair_with(found.value, do_end(alloc, room, found.rest))?;
     let (place, condition) = end.value;
     let whole = height.max(found.height.max(end.height) + 1);
+    let value = boxed(
+        alloc,
+        Stmt::Do(span, held.invariants, held.inner, place, condition),
+    )?;
     Ok(Parsed {
-        value: Stmt::Do(span, held.invariants, held.inner, place, condition),
+        value,
         height: whole,
         rest: end.rest,
     })
+}
+
+/// What is in the box, if there is one.
+fn unboxed<T>(held: Option<Box<T>>) -> Option<T>
+    ensures { result ≡ option_map (λ b. b.value) held }
+{
+    match held {
+        Some(held) => Some(Box::into_inner(held)),
+        None => None,
+    }
 }
 
 /// A loop with this front, which is so high, and this body, up to its end.
@@ -82,33 +95,45 @@ pub fn with_body<'a>(
     front: LoopFront,
     height: u32,
     found: Parsed<'a, Body>,
-) -> Reading<'a, Stmt>
+) -> Reading<'a, Box<Stmt>>
     requires room { room < 1000 }
     requires high { height ≤ room + 1 }
     requires low { found.height ≤ room }
-    ensures gives { Gives stm result (loop_end room front height (body found.entry.value) found.entry.height (lexemes found.entry.rest.now)) }
+    ensures gives { Gives in_box result (loop_end room front height (body found.entry.value) found.entry.height (lexemes found.entry.rest.now)) }
     ensures low { IfOk result (λ x. x.height ≤ room + 1) }
 {
     let whole = height.max(found.height + 1);
     match front {
-        LoopFront::While(span, condition) => Ok(Parsed {
-            value: Stmt::While(span, condition, found.value.invariants, found.value.inner),
-            height: whole,
-            rest: found.rest,
-        }),
+        LoopFront::While(span, condition) => {
+            let value = boxed(
+                alloc,
+                Stmt::While(span, condition, found.value.invariants, found.value.inner),
+            )?;
+            Ok(Parsed {
+                value,
+                height: whole,
+                rest: found.rest,
+            })
+        }
         LoopFront::Do(span) => do_loop(alloc, room, span, height, found),
-        LoopFront::For(span, first, condition, change) => Ok(Parsed {
-            value: Stmt::For(
-                span,
-                first,
-                condition,
-                change,
-                found.value.invariants,
-                found.value.inner,
-            ),
-            height: whole,
-            rest: found.rest,
-        }),
+        LoopFront::For(span, first, condition, change) => {
+            let value = boxed(
+                alloc,
+                Stmt::For(
+                    span,
+                    unboxed(first),
+                    condition,
+                    unboxed(change),
+                    found.value.invariants,
+                    found.value.inner,
+                ),
+            )?;
+            Ok(Parsed {
+                value,
+                height: whole,
+                rest: found.rest,
+            })
+        }
     }
 }
 
@@ -128,9 +153,9 @@ pub fn maybe_assigned<'a>(
     alloc: Global,
     room: u32,
     tokens: &'a [Token<'a>],
-) -> Reading<'a, Option<Assignment>>
+) -> Reading<'a, Option<Box<Assignment>>>
     requires room { room < 1000 }
-    ensures gives { Gives (option_map views.assignment) result (part room (g.optional rows.assigned_part) (lexemes tokens.now)) }
+    ensures gives { Gives maybe_boxed result (part room (g.optional rows.assigned_part) (lexemes tokens.now)) }
     ensures low { IfOk result (λ x. x.height ≤ room) }
 {
     if !begins_assigned(tokens) {
@@ -142,8 +167,9 @@ pub fn maybe_assigned<'a>(
     }
     fits(2, room, tokens)?;
     let found = assigned(alloc, room, tokens)?;
+    let value = boxed(alloc, found.value)?;
     Ok(Parsed {
-        value: Some(found.value),
+        value: Some(value),
         height: found.height,
         rest: found.rest,
     })

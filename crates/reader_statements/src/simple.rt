@@ -11,6 +11,7 @@ ghost use Rattle.c_syntax.specs.Expressions as e;
 ghost use Rattle.reader_expressions.specs.Reading.{Gives, lexemes, part, rule_at};
 ghost use Rattle.reader_statements.specs.Rows as rows;
 ghost use Rattle.reader_statements.specs.Rows.{at_span};
+ghost use Rattle.reader_statements.specs.Views.{in_box};
 
 use c_syntax::expressions::{Assignment, Call, Expr, Identifier, Right};
 use c_syntax::statements::Stmt;
@@ -23,6 +24,7 @@ use reader_assignments::calls::{
 use reader_assignments::ends::ended;
 use reader_assignments::places::{name_place, other_place};
 use reader_assignments::rights::rhs;
+use reader_expressions::memory::boxed;
 use reader_expressions::reading::{Parsed, ReadFault, Reading, fits};
 use reader_expressions::tokens::{next_is, take, take_key, take_name};
 use reader_expressions::types::ctype;
@@ -31,13 +33,14 @@ use tree_building::pair_with;
 
 /// `;`
 #[tactic(auto, unfolding(ebnf::specs::Reading::read, ebnf::specs::Reading::read_rule))]
-pub fn skip<'a>(tokens: &'a [Token<'a>]) -> Reading<'a, Stmt>
-    ensures gives { Gives stm result (rule_at 0 (rows.skip (λ x. x)) (lexemes tokens.now)) }
+pub fn skip<'a>(alloc: Global, tokens: &'a [Token<'a>]) -> Reading<'a, Box<Stmt>>
+    ensures gives { Gives in_box result (rule_at 0 (rows.skip (λ x. x)) (lexemes tokens.now)) }
     ensures high { IfOk result (λ x. x.height ≡ 1) }
 {
     let sign = take(Sign::Semicolon, tokens)?;
+    let statement = boxed(alloc, Stmt::Skip(sign.value))?;
     Ok(Parsed {
-        value: Stmt::Skip(sign.value),
+        value: statement,
         height: 1,
         rest: sign.rest,
     })
@@ -84,10 +87,10 @@ fn maybe_value<'a>(alloc: Global, room: u32, tokens: &'a [Token<'a>]) -> Reading
 
 /// A declaration.
 #[tactic(auto, unfolding(ebnf::specs::Reading::read_rule), using(reader_assignments::proofs::Parts::rows))]
-pub fn declaration<'a>(alloc: Global, room: u32, tokens: &'a [Token<'a>]) -> Reading<'a, Stmt>
+pub fn declaration<'a>(alloc: Global, room: u32, tokens: &'a [Token<'a>]) -> Reading<'a, Box<Stmt>>
     requires room { room < 1000 }
     requires fits { 0 < room }
-    ensures gives { Gives stm result (rule_at room (rows.declaration (λ x. x)) (lexemes tokens.now)) }
+    ensures gives { Gives in_box result (rule_at room (rows.declaration (λ x. x)) (lexemes tokens.now)) }
     ensures low { IfOk result (λ x. x.height ≤ room + 1) }
 {
     let ty = ctype(alloc, room, tokens)?;
@@ -96,8 +99,9 @@ pub fn declaration<'a>(alloc: Global, room: u32, tokens: &'a [Token<'a>]) -> Rea
     let end = ended(Sign::Semicolon, value)?;
     let (span, declared) = ty.value;
     let (value, _) = end.value;
+    let statement = boxed(alloc, Stmt::Declare(span, declared, name.value, value))?;
     Ok(Parsed {
-        value: Stmt::Declare(span, declared, name.value, value),
+        value: statement,
         height: ty.height.max(name.height).max(end.height) + 1,
         rest: end.rest,
     })
@@ -128,17 +132,22 @@ fn maybe_code<'a>(alloc: Global, room: u32, tokens: &'a [Token<'a>]) -> Reading<
 
 /// `return`
 #[tactic(auto, unfolding(ebnf::specs::Reading::read_rule), using(reader_assignments::proofs::Parts::rows))]
-pub fn return_statement<'a>(alloc: Global, room: u32, tokens: &'a [Token<'a>]) -> Reading<'a, Stmt>
+pub fn return_statement<'a>(
+    alloc: Global,
+    room: u32,
+    tokens: &'a [Token<'a>],
+) -> Reading<'a, Box<Stmt>>
     requires room { room < 1000 }
-    ensures gives { Gives stm result (rule_at room (rows.return_ (λ x. x)) (lexemes tokens.now)) }
+    ensures gives { Gives in_box result (rule_at room (rows.return_ (λ x. x)) (lexemes tokens.now)) }
     ensures low { IfOk result (λ x. x.height ≤ room + 1) }
 {
     let word = take_key(Keyword::Return, tokens)?;
     let value = maybe_code(alloc, room, word.rest)?;
     let end = ended(Sign::Semicolon, value)?;
     let (value, _) = end.value;
+    let statement = boxed(alloc, Stmt::Return(word.value, value))?;
     Ok(Parsed {
-        value: Stmt::Return(word.value, value),
+        value: statement,
         height: end.height + 1,
         rest: end.rest,
     })
@@ -164,17 +173,22 @@ pub fn inside<'a>(alloc: Global, room: u32, tokens: &'a [Token<'a>]) -> Reading<
 
 /// `free`
 #[tactic(auto, unfolding(ebnf::specs::Reading::read_rule), using(reader_assignments::proofs::Parts::rows))]
-pub fn free_statement<'a>(alloc: Global, room: u32, tokens: &'a [Token<'a>]) -> Reading<'a, Stmt>
+pub fn free_statement<'a>(
+    alloc: Global,
+    room: u32,
+    tokens: &'a [Token<'a>],
+) -> Reading<'a, Box<Stmt>>
     requires room { room < 1000 }
-    ensures gives { Gives stm result (rule_at room (rows.free (λ x. x)) (lexemes tokens.now)) }
+    ensures gives { Gives in_box result (rule_at room (rows.free (λ x. x)) (lexemes tokens.now)) }
     ensures low { IfOk result (λ x. x.height ≤ room + 1) }
 {
     let word = take_key(Keyword::Free, tokens)?;
     let object = inside(alloc, room, word.rest)?;
     let end = ended(Sign::Semicolon, object)?;
     let (object, _) = end.value;
+    let statement = boxed(alloc, Stmt::Free(word.value, object))?;
     Ok(Parsed {
-        value: Stmt::Free(word.value, object),
+        value: statement,
         height: end.height + 1,
         rest: end.rest,
     })
@@ -213,15 +227,16 @@ fn assignment(left: Expr, following: Following) -> Stmt
 }
 
 /// A left side that is read, and what stands behind it.
-fn assign<'a>(alloc: Global, room: u32, left: Parsed<'a, Expr>) -> Reading<'a, Stmt>
+fn assign<'a>(alloc: Global, room: u32, left: Parsed<'a, Expr>) -> Reading<'a, Box<Stmt>>
     requires room { room < 1000 }
     requires low { left.height ≤ room }
-    ensures gives { Gives stm result (rows.behind_left (exp left.entry.value) left.entry.height (part room g.assign_statement (lexemes left.entry.rest.now))) }
+    ensures gives { Gives in_box result (rows.behind_left (exp left.entry.value) left.entry.height (part room g.assign_statement (lexemes left.entry.rest.now))) }
     ensures low { IfOk result (λ x. x.height ≤ room + 1) }
 {
     let (value, following) = pair_with(left.value, assign_tail(alloc, room, left.rest))?;
+    let statement = boxed(alloc, assignment(value, following.value))?;
     Ok(Parsed {
-        value: assignment(value, following.value),
+        value: statement,
         height: left.height.max(following.height) + 1,
         rest: following.rest,
     })
@@ -235,17 +250,18 @@ fn call<'a>(
     name: Identifier,
     height: u32,
     tokens: &'a [Token<'a>],
-) -> Reading<'a, Stmt>
+) -> Reading<'a, Box<Stmt>>
     requires room { room < 1000 }
     requires low { height ≤ room }
-    ensures gives { Gives stm result (rows.behind_left (e.Name (id name)) height (part room g.call_statement (lexemes tokens.now))) }
+    ensures gives { Gives in_box result (rows.behind_left (e.Name (id name)) height (part room g.call_statement (lexemes tokens.now))) }
     ensures low { IfOk result (λ x. x.height ≤ room + 1) }
 {
     let following = call_tail(alloc, room, tokens)?;
     let end = take(Sign::Semicolon, following.rest)?;
     let span = name.span;
-    Ok(Parsed {
-        value: Stmt::Call(
+    let statement = boxed(
+        alloc,
+        Stmt::Call(
             span,
             Call {
                 function: name,
@@ -253,6 +269,9 @@ fn call<'a>(
                 ghost_arguments: following.value.ghosts,
             },
         ),
+    )?;
+    Ok(Parsed {
+        value: statement,
         height: height.max(following.height) + 1,
         rest: end.rest,
     })
@@ -260,9 +279,9 @@ fn call<'a>(
 
 /// A statement that begins with a left side that begins otherwise than with a name.
 #[tactic(auto, unfolding(ebnf::specs::Reading::read_rule), using(reader_assignments::proofs::Parts::rows))]
-pub fn other<'a>(alloc: Global, room: u32, tokens: &'a [Token<'a>]) -> Reading<'a, Stmt>
+pub fn other<'a>(alloc: Global, room: u32, tokens: &'a [Token<'a>]) -> Reading<'a, Box<Stmt>>
     requires room { room < 1000 }
-    ensures gives { Gives stm result (rule_at room (rows.other (λ x. x)) (lexemes tokens.now)) }
+    ensures gives { Gives in_box result (rule_at room (rows.other (λ x. x)) (lexemes tokens.now)) }
     ensures low { IfOk result (λ x. x.height ≤ room + 1) }
 {
     let left = other_place(alloc, room, tokens)?;
@@ -301,10 +320,10 @@ fn spawn_arguments<'a>(alloc: Global, room: u32, tokens: &'a [Token<'a>]) -> Rea
 
 /// `vcc_spawn`
 #[tactic(auto, unfolding(ebnf::specs::Reading::read_rule), using(reader_assignments::proofs::Parts::rows))]
-pub fn spawn<'a>(alloc: Global, room: u32, tokens: &'a [Token<'a>]) -> Reading<'a, Stmt>
+pub fn spawn<'a>(alloc: Global, room: u32, tokens: &'a [Token<'a>]) -> Reading<'a, Box<Stmt>>
     requires room { room < 1000 }
     requires fits { 0 < room }
-    ensures gives { Gives stm result (rule_at room (rows.spawn (λ x. x)) (lexemes tokens.now)) }
+    ensures gives { Gives in_box result (rule_at room (rows.spawn (λ x. x)) (lexemes tokens.now)) }
     ensures low { IfOk result (λ x. x.height ≤ room + 1) }
 {
     let word = take_key(Keyword::VccSpawn, tokens)?;
@@ -313,8 +332,9 @@ pub fn spawn<'a>(alloc: Global, room: u32, tokens: &'a [Token<'a>]) -> Reading<'
     let arguments = spawn_arguments(alloc, room, name.rest)?;
     let close = take(Sign::Close, arguments.rest)?;
     let end = take(Sign::Semicolon, close.rest)?;
-    Ok(Parsed {
-        value: Stmt::Spawn(
+    let statement = boxed(
+        alloc,
+        Stmt::Spawn(
             word.value,
             Call {
                 function: name.value,
@@ -322,6 +342,9 @@ pub fn spawn<'a>(alloc: Global, room: u32, tokens: &'a [Token<'a>]) -> Reading<'
                 ghost_arguments: arguments.value.ghosts,
             },
         ),
+    )?;
+    Ok(Parsed {
+        value: statement,
         height: name.height.max(arguments.height) + 1,
         rest: end.rest,
     })
@@ -346,10 +369,10 @@ fn behind_name<'a>(
     name: Identifier,
     height: u32,
     tokens: &'a [Token<'a>],
-) -> Reading<'a, Stmt>
+) -> Reading<'a, Box<Stmt>>
     requires room { room < 1000 }
     requires low { height ≤ room }
-    ensures gives { Gives stm result (rows.behind_left (e.Name (id name)) height (part room rows.behind_name (lexemes tokens.now))) }
+    ensures gives { Gives in_box result (rows.behind_left (e.Name (id name)) height (part room rows.behind_name (lexemes tokens.now))) }
     ensures low { IfOk result (λ x. x.height ≤ room + 1) }
 {
     if next_is(Sign::Open, tokens) {
@@ -367,9 +390,9 @@ fn behind_name<'a>(
 }
 
 /// A statement that begins with a name.
-pub fn named<'a>(alloc: Global, room: u32, tokens: &'a [Token<'a>]) -> Reading<'a, Stmt>
+pub fn named<'a>(alloc: Global, room: u32, tokens: &'a [Token<'a>]) -> Reading<'a, Box<Stmt>>
     requires room { room < 1000 }
-    ensures gives { Gives stm result (rule_at room (rows.named (λ x. x)) (lexemes tokens.now)) }
+    ensures gives { Gives in_box result (rule_at room (rows.named (λ x. x)) (lexemes tokens.now)) }
     ensures low { IfOk result (λ x. x.height ≤ room + 1) }
 {
     let place = name_place(alloc, room, tokens)?;

@@ -10,7 +10,7 @@ ghost use Rattle.c_syntax.specs.Views.{exp, stm};
 ghost use Rattle.reader_expressions.specs.Reading.{Gives, lexemes, part, rule_at, extended, entered};
 ghost use Rattle.reader_statements.specs.Fronts.{above, completed, if_end, looped};
 ghost use Rattle.reader_statements.specs.Rows as rows;
-ghost use Rattle.reader_statements.specs.Views.{braces, body, holding};
+ghost use Rattle.reader_statements.specs.Views.{braces, body, holding, in_box};
 
 use crate::blocks::{
     Block, BlockFront, Body, Front, LoopFront, annotation_of, between, block_of, branch_of,
@@ -55,10 +55,10 @@ fn one_more<'a>(alloc: Global, room: u32, found: Parsed<'a, Vec<Stmt>>) -> Readi
     ensures low { IfOk result (λ x. x.height ≤ room) }
 {
     fits(1, room, found.rest)?;
-    let next = statement(alloc, room, found.rest)?;
+    let next = inner(alloc, room, found.rest)?;
     let height = found.height.max(next.height);
     let mut all = found.value;
-    add(&mut all, next.value)?;
+    add(&mut all, Box::into_inner(next.value))?;
     Ok(Parsed {
         value: all,
         height,
@@ -86,14 +86,15 @@ fn block_rule<'a>(alloc: Global, room: u32, tokens: &'a [Token<'a>]) -> Reading<
 
 /// A block as a statement, one level of height down.
 #[cycle(statements)]
-fn block<'a>(alloc: Global, room: u32, tokens: &'a [Token<'a>]) -> Reading<'a, Stmt>
+fn block<'a>(alloc: Global, room: u32, tokens: &'a [Token<'a>]) -> Reading<'a, Box<Stmt>>
     requires room { room < 1000 }
-    ensures gives { Gives stm result (rule_at room (rows.block (λ x. x)) (lexemes tokens.now)) }
+    ensures gives { Gives in_box result (rule_at room (rows.block (λ x. x)) (lexemes tokens.now)) }
     ensures low { IfOk result (λ x. x.height ≤ room + 1) }
 {
     let found = block_rule(alloc, room, tokens)?;
+    let value = boxed(alloc, block_of(found.value))?;
     Ok(Parsed {
-        value: block_of(found.value),
+        value,
         height: found.height,
         rest: found.rest,
     })
@@ -112,20 +113,18 @@ pub fn block_tail<'a>(alloc: Global, room: u32, tokens: &'a [Token<'a>]) -> Read
     block_rule(alloc, room - 1, tokens)
 }
 
-/// A statement in a box.
+/// A statement in a box, no higher than room.
 #[cycle(statements)]
 fn inner<'a>(alloc: Global, room: u32, tokens: &'a [Token<'a>]) -> Reading<'a, Box<Stmt>>
     requires room { room < 1000 }
-    ensures gives { Gives (λ b. stm b.value) result (reads language room g.Statement (lexemes tokens.now)) }
+    ensures gives { Gives in_box result (reads language room g.Statement (lexemes tokens.now)) }
     ensures low { IfOk result (λ x. x.height ≤ room) }
 {
-    let found = statement(alloc, room, tokens)?;
-    let value = boxed(alloc, found.value)?;
-    Ok(Parsed {
-        value,
-        height: found.height,
-        rest: found.rest,
-    })
+    if room == 0 {
+        return Err(ReadFault::TooDeep(tokens));
+    }
+    let opening = front(alloc, room - 1, tokens)?;
+    complete(alloc, room - 1, opening.value, opening.height, opening.rest)
 }
 
 /// `else` and a statement, if they are there.
@@ -167,17 +166,18 @@ fn branch_end<'a>(
     condition: Expr,
     height: u32,
     tokens: &'a [Token<'a>],
-) -> Reading<'a, Stmt>
+) -> Reading<'a, Box<Stmt>>
     requires room { room < 1000 }
     requires low { height ≤ room + 1 }
-    ensures gives { Gives stm result (above (λ make. make (exp condition) span) height (part room if_end (lexemes tokens.now))) }
+    ensures gives { Gives in_box result (above (λ make. make (exp condition) span) height (part room if_end (lexemes tokens.now))) }
     ensures low { IfOk result (λ x. x.height ≤ room + 1) }
 {
     let (tested, first) = pair_with(condition, inner(alloc, room, tokens))?;
     let (tested, second) = pair_with(tested, maybe_else(alloc, room, first.rest))?;
     let whole = height.max(first.height.max(second.height) + 1);
+    let value = boxed(alloc, branch_of(span, tested, first.value, second.value))?;
     Ok(Parsed {
-        value: branch_of(span, tested, first.value, second.value),
+        value,
         height: whole,
         rest: second.rest,
     })
@@ -210,10 +210,10 @@ fn loop_statement<'a>(
     front: LoopFront,
     height: u32,
     tokens: &'a [Token<'a>],
-) -> Reading<'a, Stmt>
+) -> Reading<'a, Box<Stmt>>
     requires room { room < 1000 }
     requires low { height ≤ room + 1 }
-    ensures gives { Gives stm result (looped room front height (lexemes tokens.now)) }
+    ensures gives { Gives in_box result (looped room front height (lexemes tokens.now)) }
     ensures low { IfOk result (λ x. x.height ≤ room + 1) }
 {
     let (start, found) = pair_with(front, loop_body(alloc, room, tokens))?;
@@ -228,16 +228,17 @@ fn annotated_block<'a>(
     front: BlockFront,
     height: u32,
     tokens: &'a [Token<'a>],
-) -> Reading<'a, Stmt>
+) -> Reading<'a, Box<Stmt>>
     requires room { room < 1000 }
     requires low { height ≤ room + 1 }
-    ensures gives { Gives stm result (above (holding front) height (reads language room g.BlockOf (lexemes tokens.now))) }
+    ensures gives { Gives in_box result (above (holding front) height (reads language room g.BlockOf (lexemes tokens.now))) }
     ensures low { IfOk result (λ x. x.height ≤ room + 1) }
 {
     let (start, found) = pair_with(front, block_tail(alloc, room, tokens))?;
     let whole = height.max(found.height + 1);
+    let value = boxed(alloc, annotation_of(start, found.value))?;
     Ok(Parsed {
-        value: annotation_of(start, found.value),
+        value,
         height: whole,
         rest: found.rest,
     })
@@ -251,10 +252,10 @@ fn complete<'a>(
     front: Front,
     height: u32,
     tokens: &'a [Token<'a>],
-) -> Reading<'a, Stmt>
+) -> Reading<'a, Box<Stmt>>
     requires room { room < 1000 }
     requires low { height ≤ room + 1 }
-    ensures gives { Gives stm result (completed room front height (lexemes tokens.now)) }
+    ensures gives { Gives in_box result (completed room front height (lexemes tokens.now)) }
     ensures low { IfOk result (λ x. x.height ≤ room + 1) }
 {
     match front {
@@ -271,15 +272,15 @@ fn complete<'a>(
 }
 
 /// A statement, no higher than room.
-#[cycle(statements)]
 pub fn statement<'a>(alloc: Global, room: u32, tokens: &'a [Token<'a>]) -> Reading<'a, Stmt>
     requires room { room < 1000 }
     ensures gives { Gives stm result (reads language room g.Statement (lexemes tokens.now)) }
     ensures low { IfOk result (λ x. x.height ≤ room) }
 {
-    if room == 0 {
-        return Err(ReadFault::TooDeep(tokens));
-    }
-    let opening = front(alloc, room - 1, tokens)?;
-    complete(alloc, room - 1, opening.value, opening.height, opening.rest)
+    let found = inner(alloc, room, tokens)?;
+    Ok(Parsed {
+        value: Box::into_inner(found.value),
+        height: found.height,
+        rest: found.rest,
+    })
 }

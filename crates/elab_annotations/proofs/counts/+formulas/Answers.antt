@@ -1,18 +1,24 @@
-use Rattle.std.proofs.Common.{◌+◌, ap, sym, ◌∙◌, arith}
-use Rattle.typed_program.specs.Annotations.{formulas}
+use Rattle.std.proofs.Common.{ℕ, ◌+◌, ap, sym, ◌∙◌, arith}
+use Rattle.c_syntax.specs.Expressions.{Exp}
+use Rattle.c_syntax.specs.Grammar.{exps_of}
+use Rattle.c_syntax.specs.Views.{exps}
+use Rattle.typed_program.specs.Annotations.{formulas, all_formulas}
 use Rattle.elab_annotations.proofs.Steps.{told}
 use Rattle.typing_expressions.proofs.Rows.{several}
-use Rattle.elab_annotations.proofs.Vectors.{counted, counted_all}
+use Rattle.elab_annotations.proofs.Vectors.{all_behind, counted, counted_all}
 use Rattle.elab_annotations.proofs.counts.+formulas.Goals as goal
 
-pub formulas-returns-in_ok-inner-in-Several : goal.formulas-returns-in_ok-inner-in-Several
-formulas-returns-in_ok-inner-in-Several t c =
+pub next_formula-returns-in_ok-start-in-Several : goal.next_formula-returns-in_ok-start-in-Several
+next_formula-returns-in_ok-start-in-Several t c =
     let s = c.in-Several in
-    let whole = several c.args.x.now s.field-0 s.word s.arguments c.deref-in-Several.result.now s.is c.deref-in-Several.ensures.value in
-    told (λ n. n) c.plus-in-Several.result c.plus-in-Several.ensures ((λ i. c.own_formulas.ensures i + c.in_ok-inner-in-Several.ensures i) ∙ sym (ap formulas whole))
+    let items = c.deref-in-Several.result.now in
+    let whole = several c.args.x.now s.field-0 s.word s.arguments items s.is c.deref-in-Several.ensures.value in
+    let count = all_formulas (exps_of (exps items)) in
+    told (λ n. n) c.behind_all.result c.behind_all.ensures
+    (ap (λ (n : ℕ). n + count) c.in_ok-start-in-Several.ensures ∙ (ap (λ (n : ℕ). (c.args.first + n) + count) c.own_formulas.ensures ∙ (all_behind c.args.first _ count ∙ sym (ap (λ (z : Exp). c.args.first + formulas z) whole))))
 
-pub all_formulas-returns : goal.all_formulas-returns
-all_formulas-returns t c = counted_all c.args.all.now c.loop-x.x-index c.loop-x.total (omega arith) c.loop-x.invariant
+pub behind_all-returns : goal.behind_all-returns
+behind_all-returns t c = counted_all c.args.all.now c.loop-x.x-index c.loop-x.next _ (omega arith) c.loop-x.invariant
 
-pub all_formulas-loop-x-preserved : goal.all_formulas-loop-x-preserved
-all_formulas-loop-x-preserved t c = counted c.args.all.now c.loop-x.x-index c.x-item.result c.loop-x-test.true c.x-item.is _ _ _ c.in_ok-more.ensures c.in_ok-total.ensures c.loop-x.invariant
+pub behind_all-loop-x-preserved : goal.behind_all-loop-x-preserved
+behind_all-loop-x-preserved t c = counted c.args.all.now c.loop-x.x-index c.x-item.result c.loop-x-test.true c.x-item.is c.loop-x.next _ _ c.in_ok-next.ensures c.loop-x.invariant

@@ -4,5 +4,5 @@ use Rattle.c_syntax.specs.Views.{exps}
 use Rattle.typed_program.specs.Annotations as spec
 use Rattle.elab_annotations.proofs.counts.+formulas.Given as goal
 
-abbrev pub invariant-all_formulas-loop-x : goal.invariant-all_formulas-loop-x
-invariant-all_formulas-loop-x l = l.total + spec.all_formulas (exps_of (exps (drop l.x-index l.all))) ≡ spec.all_formulas (exps_of (exps l.all))
+abbrev pub invariant-behind_all-loop-x : goal.invariant-behind_all-loop-x
+invariant-behind_all-loop-x l = l.next + spec.all_formulas (exps_of (exps (drop l.x-index l.all))) ≡ l.fn.first + spec.all_formulas (exps_of (exps l.all))

@@ -1,14 +1,23 @@
-use Rattle.std.proofs.Common.{◌≡◌, ◌++◌, take, map}
+use Rattle.std.proofs.Common.{◌≡◌, ◌++◌, List, drop, map}
+use Rattle.c_syntax.specs.declared.ghosts.GhostStmt.{GhostStmt}
 use Rattle.c_syntax.specs.Grammar.{ghosts_of}
 use Rattle.c_syntax.specs.Views as view
-use Rattle.elab_code.specs.Names.{texts}
+use Rattle.typing_spec.specs.Contexts.{Variable}
 use Rattle.typing_symbols.specs.Scopes.{known}
 use Rattle.typed_program.specs.Sites as spec
-use Rattle.typing_statements.specs.Views.{fixed, behind_ghosts}
-use Rattle.elab_sites.specs.Views.{occurrence, at}
+use Rattle.typing_statements.proofs.Sequences.{Grows}
+use Rattle.elab_sites.specs.Settings.{within}
+use Rattle.elab_sites.specs.Views.{occurrence}
+use Rattle.elab_sites.proofs.ByBodies.{ghost_total}
 use Rattle.elab_sites.proofs.occurrences.+ghosts.Given as goal
 
-abbrev pub invariant-ghosts_occurrences-loop-x : goal.invariant-ghosts_occurrences-loop-x
-invariant-ghosts_occurrences-loop-x l =
-    (map occurrence l.so_far.items ≡ map occurrence l.fn.so_far.items ++ spec.ghosts_occurrences (at (fixed l.around) (known l.fn.variables) (texts l.places.names.items)) l.function (ghosts_of (map view.ghost (take l.x-index l.all))))
-    × (known l.variables ≡ behind_ghosts (map view.ghost (take l.x-index l.all)) (known l.fn.variables))
+abbrev pub decreases-ghost_statements : goal.decreases-ghost_statements
+decreases-ghost_statements l = ghost_total (map view.ghost l.all.now)
+
+abbrev pub invariant-loop-x : goal.invariant-loop-x
+invariant-loop-x l =
+    let tell = λ (vs : List Variable) (ss : List GhostStmt). spec.ghosts_occurrences (within l.setting vs) l.setting.function (ghosts_of (map view.ghost ss)) in
+    record {
+      told : map occurrence l.so_far.items ++ tell (known l.variables) (drop l.x-index l.all) ≡ map occurrence l.fn.so_far.items ++ tell (known l.fn.variables) l.all;
+      grown : Grows (known l.fn.variables) (known l.variables);
+    }

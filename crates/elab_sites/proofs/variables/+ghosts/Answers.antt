@@ -1,25 +1,23 @@
-use Rattle.std.proofs.Common.{◌≡◌, sym, ap, subst, ◌∙◌, ◌++◌, List, map, arith}
-use Rattle.std.specs.Prelude.{OnOk, flat_map}
+use Rattle.std.proofs.Common.{refl, List, map, arith}
+use Rattle.std.specs.Prelude.{flat_map}
 use Rattle.c_syntax.specs.declared.ghosts.GhostStmt.{GhostStmt}
 use Rattle.c_syntax.specs.Views as view
-use Rattle.typing_spec.specs.Contexts.{Variable}
 use Rattle.typing_symbols.specs.Scopes.{variable}
-use Rattle.typed_program.specs.Variables.{ghost_declared}
-use Rattle.typing_statements.proofs.Sequences.{ghost_block}
-use Rattle.elab_sites.proofs.Added.{more, whole}
-use Rattle.elab_sites.proofs.Declared.{all_ghosts}
+use Rattle.typed_program.specs.Variables as spec
+use Rattle.elab_sites.proofs.ByBodies.{ghost_body_smaller, ghost_else_smaller}
+use Rattle.elab_sites.proofs.Telling.{all_put, ghosts_declare}
 use Rattle.elab_sites.proofs.variables.+ghosts.Goals as goal
 
-pub add_ghost-returns-in-Block : goal.add_ghost-returns-in-Block
-add_ghost-returns-in-Block t c =
-    let s = c.in-Block in
-    let items = c.deref.result.now in
-    let shown = ap ghost_declared (ghost_block c.args.x.now s.field-0 s.all items s.is c.deref.ensures.value) ∙ all_ghosts (map view.ghost items) in
-    subst (λ (vs : List Variable). OnOk c.add_ghosts.result (map variable c.add_ghosts.new.declared.items ≡ map variable c.args.declared.now.items ++ vs)) (sym shown) c.add_ghosts.ensures
+pub add_ghosts-requires : goal.add_ghosts-requires
+add_ghosts-requires t c = (omega (arith, c.decreases, ghost_body_smaller c.args.all.now c.loop-x.x-index c.x-item.result c.loop-x-test.true c.x-item.is (map view.ghost c.ghost_body.result.now) c.ghost_body.ensures), tt)
 
-pub add_ghosts-loop-x-preserved : goal.add_ghosts-loop-x-preserved
-add_ghosts-loop-x-preserved t c =
-    more ghost_declared view.ghost (map variable c.args.declared.now.items) (map variable c.loop-x.declared.items) _ c.args.all.now c.loop-x.x-index c.x-item.result c.loop-x-test.true c.x-item.is c.loop-x.invariant c.in_ok-add_ghost.ensures
+pub add_ghosts-requires-in-loop-x : goal.add_ghosts-requires-in-loop-x
+add_ghosts-requires-in-loop-x t c = (omega (arith, c.decreases, ghost_else_smaller c.args.all.now c.loop-x.x-index c.x-item.result c.loop-x-test.true c.x-item.is (map view.ghost c.ghost_else_body.result.now) c.ghost_else_body.ensures), tt)
 
-pub add_ghosts-returns : goal.add_ghosts-returns
-add_ghosts-returns t c = whole (λ (ss : List GhostStmt). flat_map ghost_declared (map view.ghost ss)) (map variable c.args.declared.now.items) (map variable c.loop-x.declared.items) c.args.all.now c.loop-x.x-index (omega arith) c.loop-x.invariant
+pub loop-x-preserved : goal.loop-x-preserved
+loop-x-preserved t c =
+    ghosts_declare c.args.all.now c.loop-x.x-index c.x-item.result c.loop-x-test.true c.x-item.is (map view.ghost c.ghost_body.result.now) (map view.ghost c.ghost_else_body.result.now) c.ghost_body.ensures c.ghost_else_body.ensures (map variable c.loop-x.declared.items) _ _ _ _
+    c.in_ok-add_ghost.ensures c.in_ok-add_ghosts.ensures c.in_ok-add_ghosts-2.ensures c.loop-x.invariant
+
+pub returns : goal.returns
+returns t c = all_put (λ (ss : List GhostStmt). flat_map spec.ghost_declared (map view.ghost ss)) c.args.all.now c.loop-x.x-index (omega arith) refl (map variable c.loop-x.declared.items) _ c.loop-x.invariant

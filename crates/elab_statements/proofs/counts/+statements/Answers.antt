@@ -1,4 +1,4 @@
-use Rattle.std.proofs.Common.{refl, sym, ap, ◌∙◌, List, map, take, arith}
+use Rattle.std.proofs.Common.{sym, ap, ◌∙◌, List, map, take, arith}
 use Rattle.c_syntax.specs.declared.statements.Stmt.{Stmt}
 use Rattle.c_syntax.specs.Grammar.{stms_of}
 use Rattle.c_syntax.specs.Statements.{Stm}
@@ -6,15 +6,20 @@ use Rattle.c_syntax.specs.Views as view
 use Rattle.typing_expressions.proofs.Rows.{take_at, take_all}
 use Rattle.elab_annotations.proofs.Steps.{told}
 use Rattle.elab_assignments.specs.Views.{before}
-use Rattle.typing_statements.proofs.Sequences.{block_stm, unwrapping_stm, atomic_stm}
+use Rattle.typing_statements.proofs.Sequences.{unwrapping_stm}
 use Rattle.typed_program.specs.Statements.{Counters, plus, some_formulas, in_statement, in_statements}
-use Rattle.elab_statements.proofs.Counting.{statement_free}
+use Rattle.elab_statements.proofs.Groups.{behind_loop, braced_counts, statement_counts}
 use Rattle.elab_statements.proofs.Sums.{plus_none, plus_assoc, behind_statements_more}
 use Rattle.elab_statements.proofs.counts.+statements.Goals as goal
 
 pub behind_statement-returns-in-Block : goal.behind_statement-returns-in-Block
 behind_statement-returns-in-Block t c =
-    told before c.behind_statements.result c.behind_statements.ensures (ap (λ (s : Stm). plus (before c.args.before) (in_statement s)) (sym (block_stm c.args.x.now c.in-Block.field-0 c.in-Block.all c.in-Block.field-2 c.deref.result.now c.in-Block.is c.deref.ensures.value)))
+    told before c.behind_statements-in-Block.result c.behind_statements-in-Block.ensures (braced_counts (before c.args.before) c.args.x.now c.in-Block.all c.deref-in-Block.result.now c.deref-in-Block.ensures.value c.in-Block.is)
+
+pub behind_statement-returns-in_ok-next-in-While : goal.behind_statement-returns-in_ok-next-in-While
+behind_statement-returns-in_ok-next-in-While t c =
+    let s = c.in-While in
+    told before c.behind_statement-in-While.result c.behind_statement-in-While.ensures (behind_loop (before c.args.before) c.args.x.now s.all s.body c.deref-in-While.result.now c.deref-in-While-2.result.now c.deref-in-While.ensures.value c.deref-in-While-2.ensures c.in_ok-next-in-While.ensures s.is)
 
 pub behind_statements-loop-x-init : goal.behind_statements-loop-x-init
 behind_statements-loop-x-init t c = plus_none (before c.args.before)
@@ -32,28 +37,7 @@ behind_statements-returns t c =
     c.loop-x.invariant ∙ ap (λ (xs : List Stmt). plus (before c.args.before) (in_statements (stms_of (map view.stm xs)))) (take_all c.args.all.now c.loop-x.x-index (omega arith))
 
 pub behind_statement-returns-in-Skip : goal.behind_statement-returns-in-Skip
-behind_statement-returns-in-Skip t c = statement_free (before c.args.before) c.args.x.now _ c.in-Skip.is refl
-
-pub behind_statement-returns-in-Declare : goal.behind_statement-returns-in-Declare
-behind_statement-returns-in-Declare t c = statement_free (before c.args.before) c.args.x.now _ c.in-Declare.is refl
-
-pub behind_statement-returns-in-Assign : goal.behind_statement-returns-in-Assign
-behind_statement-returns-in-Assign t c = statement_free (before c.args.before) c.args.x.now _ c.in-Assign.is refl
-
-pub behind_statement-returns-in-Call : goal.behind_statement-returns-in-Call
-behind_statement-returns-in-Call t c = statement_free (before c.args.before) c.args.x.now _ c.in-Call.is refl
-
-pub behind_statement-returns-in-Return : goal.behind_statement-returns-in-Return
-behind_statement-returns-in-Return t c = statement_free (before c.args.before) c.args.x.now _ c.in-Return.is refl
-
-pub behind_statement-returns-in-Spawn : goal.behind_statement-returns-in-Spawn
-behind_statement-returns-in-Spawn t c = statement_free (before c.args.before) c.args.x.now _ c.in-Spawn.is refl
-
-pub behind_statement-returns-in-Free : goal.behind_statement-returns-in-Free
-behind_statement-returns-in-Free t c = statement_free (before c.args.before) c.args.x.now _ c.in-Free.is refl
-
-pub behind_statement-returns-in-Unwrap : goal.behind_statement-returns-in-Unwrap
-behind_statement-returns-in-Unwrap t c = statement_free (before c.args.before) c.args.x.now _ c.in-Unwrap.is refl
+behind_statement-returns-in-Skip t c = statement_counts (before c.args.before) c.args.x.now c.in-Skip.is
 
 pub behind_statement-returns-in_ok-next-in-Unwrapping : goal.behind_statement-returns-in_ok-next-in-Unwrapping
 behind_statement-returns-in_ok-next-in-Unwrapping t c =
@@ -62,12 +46,4 @@ behind_statement-returns-in_ok-next-in-Unwrapping t c =
     let items = c.deref-in-Unwrapping.result.now in
     let ss = stms_of (map view.stm items) in
     let shown = ap (λ (z : Stm). plus n (in_statement z)) (unwrapping_stm c.args.x.now s.field-0 s.field-1 s.all s.field-3 items s.is c.deref-in-Unwrapping.ensures.value) in
-    told before c.behind_statements-in-Unwrapping.result c.behind_statements-in-Unwrapping.ensures (ap (λ (m : Counters). plus m (in_statements ss)) c.in_ok-next-in-Unwrapping.ensures ∙ (plus_assoc n (some_formulas 1) (in_statements ss) ∙ sym shown))
-
-pub behind_statement-returns-in-Atomic : goal.behind_statement-returns-in-Atomic
-behind_statement-returns-in-Atomic t c =
-    let n = before c.args.before in
-    let s = c.in-Atomic in
-    let items = c.deref-in-Atomic.result.now in
-    let shown = ap (λ (z : Stm). plus n (in_statement z)) (atomic_stm c.args.x.now s.field-0 s.field-1 s.all s.field-3 s.field-1.items items s.is refl c.deref-in-Atomic.ensures.value) in
-    told before c.behind_statements-in-Atomic.result c.behind_statements-in-Atomic.ensures (sym shown)
+    told before c.behind_statements.result c.behind_statements.ensures (ap (λ (m : Counters). plus m (in_statements ss)) c.in_ok-next-in-Unwrapping.ensures ∙ (plus_assoc n (some_formulas 1) (in_statements ss) ∙ sym shown))

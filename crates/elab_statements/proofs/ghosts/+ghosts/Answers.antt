@@ -1,9 +1,6 @@
 use Rattle.std.proofs.Common.{◌≡◌, ℕ, ◌≤◌, ◌-◌, refl, sym, ap, ◌∙◌, List, map, take, drop, length, arith}
-use Rattle.std.specs.Option.{option_map}
-use Rattle.c_syntax.specs.declared.expressions.Expr.{Expr}
 use Rattle.c_syntax.specs.declared.ghosts.GhostStmt.{GhostStmt}
 use Rattle.c_syntax.specs.Grammar.{ghosts_of}
-use Rattle.c_syntax.specs.Ghosts as g
 use Rattle.c_syntax.specs.Ghosts.{GStm}
 use Rattle.c_syntax.specs.Views as view
 use Rattle.typing_spec.specs.Contexts.{Variable}
@@ -16,7 +13,8 @@ use Rattle.typing_statements.proofs.Sequences.{Grows, kept, longer, grows_ghosts
 use Rattle.typed_program.specs.Statements.{Counters}
 use Rattle.elab_statements.specs.Rows.{Typed, row, typed_ghost, typed_ghosts}
 use Rattle.elab_statements.specs.Settings.{setting, at}
-use Rattle.elab_statements.proofs.GhostForms.{declare_is, assign_is, owns_is, destroy_is, wrap_is, unwrap_is, if_step, if_else_step}
+use Rattle.elab_statements.proofs.GhostForms.{if_step, if_else_step}
+use Rattle.elab_statements.proofs.Groups.{ghost_alone}
 use Rattle.elab_statements.proofs.Sequences.{ghosts_law, no_ghosts}
 use Rattle.elab_statements.proofs.Steps.{ghost_form, behind_each_other}
 use Rattle.elab_statements.proofs.ghosts.+ghosts.Goals as goal
@@ -29,52 +27,14 @@ ghost_statement-returns-in-Block-clause-typed t c =
 pub ghost_statement-returns-in-Declare-clause-typed : goal.ghost_statement-returns-in-Declare-clause-typed
 ghost_statement-returns-in-Declare-clause-typed t c =
     let k = at (setting c.args.setting) (known c.args.variables.now) in
-    let n = before c.args.before in
-    let s = c.in-Declare in
-    told row c.ghost_declaration.result c.ghost_declaration.ensures (declare_is n s.span (view.ty s.ty) (view.id s.name) (option_map view.ghost_rhs s.first) c.around-around.ensures ∙ ghost_form k n c.args.x.now _ s.is)
-
-pub ghost_statement-returns-in-Assign-clause-typed : goal.ghost_statement-returns-in-Assign-clause-typed
-ghost_statement-returns-in-Assign-clause-typed t c =
-    let k = at (setting c.args.setting) (known c.args.variables.now) in
-    let n = before c.args.before in
-    let s = c.in-Assign in
-    told row c.ghost_assignment.result c.ghost_assignment.ensures (assign_is n s.span (view.exp s.left) s.field-2 (view.ghost_rhs s.value) c.around-around-in-Assign.ensures ∙ ghost_form k n c.args.x.now _ s.is)
-
-pub ghost_statement-returns-in-Owns-clause-typed : goal.ghost_statement-returns-in-Owns-clause-typed
-ghost_statement-returns-in-Owns-clause-typed t c =
-    let k = at (setting c.args.setting) (known c.args.variables.now) in
-    let n = before c.args.before in
-    let s = c.in-Owns in
-    told row c.owned_set_change.result c.owned_set_change.ensures (owns_is n s.span (view.exp s.left) s.field-2 (view.owns s.change) c.around-around-in-Owns.ensures ∙ ghost_form k n c.args.x.now _ s.is)
-
-pub ghost_statement-returns-in-DestroyClaim-clause-typed : goal.ghost_statement-returns-in-DestroyClaim-clause-typed
-ghost_statement-returns-in-DestroyClaim-clause-typed t c =
-    let k = at (setting c.args.setting) (known c.args.variables.now) in
-    let n = before c.args.before in
-    let s = c.in-DestroyClaim in
-    told row c.destroyed.result c.destroyed.ensures (destroy_is n s.span (view.exp s.claim) (view.exps c.deref-in-DestroyClaim.result.now) c.around-around-in-DestroyClaim.ensures
-    ∙ (ap (λ (xs : List Expr). typed_ghost k n (g.DestroyClaim s.span (view.exp s.claim) (view.exps xs))) c.deref-in-DestroyClaim.ensures.value ∙ ghost_form k n c.args.x.now _ s.is))
-
-pub ghost_statement-returns-in-Wrap-clause-typed : goal.ghost_statement-returns-in-Wrap-clause-typed
-ghost_statement-returns-in-Wrap-clause-typed t c =
-    let k = at (setting c.args.setting) (known c.args.variables.now) in
-    let n = before c.args.before in
-    let s = c.in-Wrap in
-    told row c.wrap.result c.wrap.ensures (wrap_is n s.span (view.exp s.object) c.around-around-in-Wrap.ensures ∙ ghost_form k n c.args.x.now _ s.is)
-
-pub ghost_statement-returns-in-Unwrap-clause-typed : goal.ghost_statement-returns-in-Unwrap-clause-typed
-ghost_statement-returns-in-Unwrap-clause-typed t c =
-    let k = at (setting c.args.setting) (known c.args.variables.now) in
-    let n = before c.args.before in
-    let s = c.in-Unwrap in
-    told row c.unwrap.result c.unwrap.ensures (unwrap_is n s.span (view.exp s.object) c.around-around-in-Unwrap.ensures ∙ ghost_form k n c.args.x.now _ s.is)
+    told row c.action_row.result c.action_row.ensures (ghost_alone k (before c.args.before) c.in-Declare.span c.args.x.now c.in-Declare.is)
 
 pub ghost_statement-returns-in_ok-inner-in-If-clause-typed : goal.ghost_statement-returns-in_ok-inner-in-If-clause-typed
 ghost_statement-returns-in_ok-inner-in-If-clause-typed t c =
     let k = at (setting c.args.setting) (known c.args.variables.now) in
     let n = before c.args.before in
     let s = c.in-If in
-    let around = c.around-around-in-If.ensures ∙ ap (λ (vs : List Variable). at (setting c.args.setting) vs) c.in_ok-inner-in-If.ensures.kept in
+    let around = ap (λ (vs : List Variable). at (setting c.args.setting) vs) c.in_ok-inner-in-If.ensures.kept in
     let part = c.in_ok-inner-in-If.ensures.typed ∙ ap (λ (z : GhostStmt). typed_ghost k n (view.ghost z)) c.deref-in-If.ensures in
     told row c.if_row.result c.if_row.ensures (if_step n s.span (view.exp s.test) (view.ghost s.yes.value) around part ∙ ghost_form k n c.args.x.now _ s.is)
 
@@ -86,7 +46,7 @@ ghost_statement-returns-in_ok-no-in-IfElse-clause-typed t c =
     let yes = c.in_ok-yes-in-IfElse.ensures.typed ∙ ap (λ (z : GhostStmt). typed_ghost k n (view.ghost z)) c.deref-in-IfElse.ensures in
     let no = c.in_ok-no-in-IfElse.ensures.typed ∙ (ap (λ (vs : List Variable). typed_ghost (at (setting c.args.setting) vs) (before c.in_ok-yes-in-IfElse.yes.next) (view.ghost c.deref-in-IfElse-2.result.now)) c.in_ok-yes-in-IfElse.ensures.kept
     ∙ ap (λ (z : GhostStmt). typed_ghost k (before c.in_ok-yes-in-IfElse.yes.next) (view.ghost z)) c.deref-in-IfElse-2.ensures) in
-    let around = c.around-around-in-IfElse.ensures ∙ ap (λ (vs : List Variable). at (setting c.args.setting) vs) (c.in_ok-no-in-IfElse.ensures.kept ∙ c.in_ok-yes-in-IfElse.ensures.kept) in
+    let around = ap (λ (vs : List Variable). at (setting c.args.setting) vs) (c.in_ok-no-in-IfElse.ensures.kept ∙ c.in_ok-yes-in-IfElse.ensures.kept) in
     told row c.if_else_row.result c.if_else_row.ensures (if_else_step n s.span (view.exp s.test) (view.ghost s.first.value) (view.ghost s.second.value) around yes no ∙ ghost_form k n c.args.x.now _ s.is)
 
 pub ghost_statements-loop-x-init : goal.ghost_statements-loop-x-init

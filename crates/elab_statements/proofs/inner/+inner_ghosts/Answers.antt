@@ -1,8 +1,6 @@
 use Rattle.std.proofs.Common.{◌≡◌, ℕ, ◌≤◌, ◌-◌, refl, sym, ap, ◌∙◌, List, map, take, drop, length, arith}
-use Rattle.c_syntax.specs.declared.expressions.Expr.{Expr}
 use Rattle.c_syntax.specs.declared.ghosts.GhostStmt.{GhostStmt}
 use Rattle.c_syntax.specs.Grammar.{ghosts_of}
-use Rattle.c_syntax.specs.Ghosts as g
 use Rattle.c_syntax.specs.Ghosts.{GStm}
 use Rattle.c_syntax.specs.Views as view
 use Rattle.typing_spec.specs.Contexts.{Variable}
@@ -15,7 +13,8 @@ use Rattle.typing_statements.proofs.Sequences.{Grows, kept, longer, grows_ghosts
 use Rattle.typed_program.specs.Statements.{Counters}
 use Rattle.elab_statements.specs.Rows.{TypedInner, inner, typed_inner_ghost, typed_inner_ghosts}
 use Rattle.elab_statements.specs.Settings.{setting, at}
-use Rattle.elab_statements.proofs.GhostForms.{inner_assign_is, inner_owns_is, inner_destroy_is, inner_if_step, inner_if_else_step}
+use Rattle.elab_statements.proofs.GhostForms.{inner_if_step, inner_if_else_step}
+use Rattle.elab_statements.proofs.Groups.{inner_alone}
 use Rattle.elab_statements.proofs.Sequences.{inner_ghosts_law, no_inner_ghosts}
 use Rattle.elab_statements.proofs.Steps.{inner_ghost_form, inner_behind}
 use Rattle.elab_statements.proofs.inner.+inner_ghosts.Goals as goal
@@ -25,34 +24,17 @@ inner_ghost-returns-in-Block-clause-typed t c =
     let k = at (setting c.args.setting) (known c.args.variables.now) in
     told inner c.inner_ghosts.result c.inner_ghosts.ensures.typed (ap (λ (s : GStm). typed_inner_ghost k (before c.args.before) s) (sym (ghost_block c.args.x.now c.in-Block.field-0 c.in-Block.all c.deref.result.now c.in-Block.is c.deref.ensures.value)))
 
-pub inner_ghost-returns-in-Assign-clause-typed : goal.inner_ghost-returns-in-Assign-clause-typed
-inner_ghost-returns-in-Assign-clause-typed t c =
+pub inner_ghost-returns-in-Declare-clause-typed : goal.inner_ghost-returns-in-Declare-clause-typed
+inner_ghost-returns-in-Declare-clause-typed t c =
     let k = at (setting c.args.setting) (known c.args.variables.now) in
-    let n = before c.args.before in
-    let s = c.in-Assign in
-    told inner c.inner_assignment.result c.inner_assignment.ensures (inner_assign_is n s.span (view.exp s.left) s.field-2 (view.ghost_rhs s.value) c.around-around.ensures ∙ inner_ghost_form k n c.args.x.now _ s.is)
-
-pub inner_ghost-returns-in-Owns-clause-typed : goal.inner_ghost-returns-in-Owns-clause-typed
-inner_ghost-returns-in-Owns-clause-typed t c =
-    let k = at (setting c.args.setting) (known c.args.variables.now) in
-    let n = before c.args.before in
-    let s = c.in-Owns in
-    told inner c.inner_set_change.result c.inner_set_change.ensures (inner_owns_is n s.span (view.exp s.left) s.field-2 (view.owns s.change) c.around-around-in-Owns.ensures ∙ inner_ghost_form k n c.args.x.now _ s.is)
-
-pub inner_ghost-returns-in-DestroyClaim-clause-typed : goal.inner_ghost-returns-in-DestroyClaim-clause-typed
-inner_ghost-returns-in-DestroyClaim-clause-typed t c =
-    let k = at (setting c.args.setting) (known c.args.variables.now) in
-    let n = before c.args.before in
-    let s = c.in-DestroyClaim in
-    told inner c.inner_destroyed.result c.inner_destroyed.ensures (inner_destroy_is n s.span (view.exp s.claim) (view.exps c.deref-in-DestroyClaim.result.now) c.around-around-in-DestroyClaim.ensures
-    ∙ (ap (λ (xs : List Expr). typed_inner_ghost k n (g.DestroyClaim s.span (view.exp s.claim) (view.exps xs))) c.deref-in-DestroyClaim.ensures.value ∙ inner_ghost_form k n c.args.x.now _ s.is))
+    told inner c.inner_change_row.result c.inner_change_row.ensures (inner_alone k (before c.args.before) c.in-Declare.span c.args.x.now c.in-Declare.is)
 
 pub inner_ghost-returns-in_ok-inner-in-If-clause-typed : goal.inner_ghost-returns-in_ok-inner-in-If-clause-typed
 inner_ghost-returns-in_ok-inner-in-If-clause-typed t c =
     let k = at (setting c.args.setting) (known c.args.variables.now) in
     let n = before c.args.before in
     let s = c.in-If in
-    let around = c.around-around-in-If.ensures ∙ ap (λ (vs : List Variable). at (setting c.args.setting) vs) c.in_ok-inner-in-If.ensures.kept in
+    let around = ap (λ (vs : List Variable). at (setting c.args.setting) vs) c.in_ok-inner-in-If.ensures.kept in
     let part = c.in_ok-inner-in-If.ensures.typed ∙ ap (λ (z : GhostStmt). typed_inner_ghost k n (view.ghost z)) c.deref-in-If.ensures in
     told inner c.inner_if_row.result c.inner_if_row.ensures (inner_if_step n s.span (view.exp s.test) (view.ghost s.yes.value) around part ∙ inner_ghost_form k n c.args.x.now _ s.is)
 
@@ -64,7 +46,7 @@ inner_ghost-returns-in_ok-no-in-IfElse-clause-typed t c =
     let yes = c.in_ok-yes-in-IfElse.ensures.typed ∙ ap (λ (z : GhostStmt). typed_inner_ghost k n (view.ghost z)) c.deref-in-IfElse.ensures in
     let no = c.in_ok-no-in-IfElse.ensures.typed ∙ (ap (λ (vs : List Variable). typed_inner_ghost (at (setting c.args.setting) vs) (before c.in_ok-yes-in-IfElse.yes.next) (view.ghost c.deref-in-IfElse-2.result.now)) c.in_ok-yes-in-IfElse.ensures.kept
     ∙ ap (λ (z : GhostStmt). typed_inner_ghost k (before c.in_ok-yes-in-IfElse.yes.next) (view.ghost z)) c.deref-in-IfElse-2.ensures) in
-    let around = c.around-around-in-IfElse.ensures ∙ ap (λ (vs : List Variable). at (setting c.args.setting) vs) (c.in_ok-no-in-IfElse.ensures.kept ∙ c.in_ok-yes-in-IfElse.ensures.kept) in
+    let around = ap (λ (vs : List Variable). at (setting c.args.setting) vs) (c.in_ok-no-in-IfElse.ensures.kept ∙ c.in_ok-yes-in-IfElse.ensures.kept) in
     told inner c.inner_if_else_row.result c.inner_if_else_row.ensures (inner_if_else_step n s.span (view.exp s.test) (view.ghost s.first.value) (view.ghost s.second.value) around yes no ∙ inner_ghost_form k n c.args.x.now _ s.is)
 
 pub inner_ghosts-loop-x-init : goal.inner_ghosts-loop-x-init

@@ -28,7 +28,7 @@ inner_statement-returns-in-Assign-clause-typed t c =
     let k = at (setting c.args.setting) (known c.args.variables.now) in
     let n = before c.args.before in
     let s = c.in-Assign in
-    told inner c.assignment.result c.assignment.ensures (assign_is n s.span (view.assignment s.change) c.around-around.ensures ∙ inner_form k n c.args.x.now _ s.is)
+    told inner c.assignment.result c.assignment.ensures (assign_is {a = k} n s.span (view.assignment s.change) refl ∙ inner_form k n c.args.x.now _ s.is)
 
 pub inner_statement-returns-in-Ghost-clause-typed : goal.inner_statement-returns-in-Ghost-clause-typed
 inner_statement-returns-in-Ghost-clause-typed t c =

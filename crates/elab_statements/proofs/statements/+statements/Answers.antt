@@ -1,5 +1,4 @@
-use Rattle.std.proofs.Common.{◌≡◌, ℕ, ◌≤◌, ◌-◌, refl, sym, ap, ◌∙◌, List, map, take, drop, length, arith, None}
-use Rattle.std.specs.Option.{option_map}
+use Rattle.std.proofs.Common.{◌≡◌, ℕ, ◌≤◌, ◌-◌, refl, sym, ap, ◌∙◌, List, map, take, drop, length, arith}
 use Rattle.c_syntax.specs.declared.statements.Stmt.{Stmt}
 use Rattle.c_syntax.specs.Grammar.{stms_of}
 use Rattle.c_syntax.specs.Statements.{Stm}
@@ -11,17 +10,14 @@ use Rattle.elab_annotations.proofs.Steps.{told}
 use Rattle.elab_assignments.specs.Views.{before}
 use Rattle.typing_statements.specs.Views.{following, behind_all}
 use Rattle.typing_statements.proofs.Sequences.{Grows, kept, longer, grows_all, block_stm, unwrapping_stm, atomic_stm, behind_all_more}
-use Rattle.typed_program.specs.Codes.{code}
-use Rattle.typed_program.specs.Numbers.{Around, function_number, struct_at}
-use Rattle.typed_program.specs.Statements as st
-use Rattle.typed_program.specs.Statements.{Counters, plus, some_formulas}
-use Rattle.typed_program.specs.Trees as trees
+use Rattle.typed_program.specs.Statements.{Counters}
 use Rattle.elab_clauses.specs.Numberings.{numbering}
-use Rattle.elab_statements.specs.Shaped.{typed_statement, typed_statements, declared_statement, asserted}
-use Rattle.elab_statements.specs.Rows.{Typed, row, single}
+use Rattle.elab_statements.specs.Shaped.{typed_statement, typed_statements}
+use Rattle.elab_statements.specs.Rows.{Typed, row}
 use Rattle.elab_statements.specs.Settings.{setting, at}
-use Rattle.elab_statements.proofs.Forms.{skip_law, declare_law, assign_law, call_law, return_law, spawn_law, free_law, unwrap_law, ghost_law, statements_law, no_statements}
-use Rattle.elab_statements.proofs.StatementSteps.{from, form, told_here, if_step, if_else_step, while_step, do_step, for_step, unwrapping_step, atomic_step}
+use Rattle.elab_statements.proofs.Forms.{ghost_law, statements_law, no_statements}
+use Rattle.elab_statements.proofs.Groups.{action_alone, loop_step, simple_alone}
+use Rattle.elab_statements.proofs.StatementSteps.{from, form, told_here, if_step, if_else_step, unwrapping_step, atomic_step}
 use Rattle.elab_statements.proofs.Steps.{behind_each_other}
 use Rattle.elab_statements.proofs.statements.+statements.Goals as goal
 
@@ -34,33 +30,7 @@ statement-returns-in-Block-clause-typed t c =
 pub statement-returns-in-Skip-clause-typed : goal.statement-returns-in-Skip-clause-typed
 statement-returns-in-Skip-clause-typed t c =
     let k = at (setting c.args.setting) (known c.args.variables.now) in
-    let j = numbering c.args.numbering in
-    let n = before c.args.before in
-    c.nothing.ensures ∙ (skip_law j k n c.in-Skip.field-0 ∙ form j k n c.args.x.now _ c.in-Skip.is)
-
-pub statement-returns-in-Declare-clause-typed : goal.statement-returns-in-Declare-clause-typed
-statement-returns-in-Declare-clause-typed t c =
-    let k = at (setting c.args.setting) (known c.args.variables.now) in
-    let j = numbering c.args.numbering in
-    let n = before c.args.before in
-    let s = c.in-Declare in
-    told row c.declaration.result c.declaration.ensures (ap (λ (a : Around). single n (declared_statement a s.span.line (view.ty s.ty) (view.id s.name) (option_map view.rhs s.first))) c.around-around.ensures ∙ (declare_law j k n s.span (view.ty s.ty) (view.id s.name) (option_map view.rhs s.first) ∙ form j k n c.args.x.now _ s.is))
-
-pub statement-returns-in-Assign-clause-typed : goal.statement-returns-in-Assign-clause-typed
-statement-returns-in-Assign-clause-typed t c =
-    let k = at (setting c.args.setting) (known c.args.variables.now) in
-    let j = numbering c.args.numbering in
-    let n = before c.args.before in
-    let s = c.in-Assign in
-    told row c.assignment.result c.assignment.ensures (ap (λ (a : Around). single n (st.assigned a s.span.line (view.assignment s.change))) c.around-around-in-Assign.ensures ∙ (assign_law j k n s.span (view.assignment s.change) ∙ form j k n c.args.x.now _ s.is))
-
-pub statement-returns-in-Call-clause-typed : goal.statement-returns-in-Call-clause-typed
-statement-returns-in-Call-clause-typed t c =
-    let k = at (setting c.args.setting) (known c.args.variables.now) in
-    let j = numbering c.args.numbering in
-    let n = before c.args.before in
-    let s = c.in-Call in
-    told row c.call.result c.call.ensures (ap (λ (a : Around). single n (st.call_of a s.span.line trees.Nobody None (view.call s.called))) c.around-around-in-Call.ensures ∙ (call_law j k n s.span (view.call s.called) ∙ form j k n c.args.x.now _ s.is))
+    told row c.simple_row.result c.simple_row.ensures (simple_alone (numbering c.args.numbering) k (before c.args.before) c.args.x.now c.in-Skip.is)
 
 pub statement-returns-in_ok-inner-in-If-clause-typed : goal.statement-returns-in_ok-inner-in-If-clause-typed
 statement-returns-in_ok-inner-in-If-clause-typed t c =
@@ -68,7 +38,7 @@ statement-returns-in_ok-inner-in-If-clause-typed t c =
     let j = numbering c.args.numbering in
     let n = before c.args.before in
     let s = c.in-If in
-    let around = c.around-around-in-If.ensures ∙ ap (λ (vs : List Variable). at (setting c.args.setting) vs) c.in_ok-inner-in-If.ensures.kept in
+    let around = ap (λ (vs : List Variable). at (setting c.args.setting) vs) c.in_ok-inner-in-If.ensures.kept in
     let inner = c.in_ok-inner-in-If.ensures.typed ∙ ap (λ (z : Stmt). typed_statement j k n (view.stm z)) c.deref-in-If.ensures in
     told row c.if_row.result c.if_row.ensures (if_step j n s.span (view.exp s.test) (view.stm s.yes.value) around inner ∙ form j k n c.args.x.now _ s.is)
 
@@ -81,7 +51,7 @@ statement-returns-in_ok-no-in-IfElse-clause-typed t c =
     let yes = c.in_ok-yes-in-IfElse.ensures.typed ∙ ap (λ (z : Stmt). typed_statement j k n (view.stm z)) c.deref-in-IfElse.ensures in
     let no = c.in_ok-no-in-IfElse.ensures.typed ∙ (ap (λ (vs : List Variable). typed_statement j (at (setting c.args.setting) vs) (before c.in_ok-yes-in-IfElse.yes.next) (view.stm c.deref-in-IfElse-2.result.now)) c.in_ok-yes-in-IfElse.ensures.kept
     ∙ ap (λ (z : Stmt). typed_statement j k (before c.in_ok-yes-in-IfElse.yes.next) (view.stm z)) c.deref-in-IfElse-2.ensures) in
-    let around = c.around-around-in-IfElse.ensures ∙ ap (λ (vs : List Variable). at (setting c.args.setting) vs) (c.in_ok-no-in-IfElse.ensures.kept ∙ c.in_ok-yes-in-IfElse.ensures.kept) in
+    let around = ap (λ (vs : List Variable). at (setting c.args.setting) vs) (c.in_ok-no-in-IfElse.ensures.kept ∙ c.in_ok-yes-in-IfElse.ensures.kept) in
     told row c.if_else_row.result c.if_else_row.ensures (if_else_step j n s.span (view.exp s.test) (view.stm s.first.value) (view.stm s.second.value) around yes no ∙ form j k n c.args.x.now _ s.is)
 
 pub statement-returns-in_ok-inner-in-While-clause-typed : goal.statement-returns-in_ok-inner-in-While-clause-typed
@@ -90,67 +60,15 @@ statement-returns-in_ok-inner-in-While-clause-typed t c =
     let j = numbering c.args.numbering in
     let n = before c.args.before in
     let s = c.in-While in
-    let is = map view.invariant s.all.items in
-    let all = c.in_ok-told-in-While.ensures ∙ told_here j n.formulas c.around-around-in-While.ensures c.deref-in-While.ensures.value in
-    let around = c.around-around-in-While-2.ensures ∙ ap (λ (vs : List Variable). at (setting c.args.setting) vs) c.in_ok-inner-in-While.ensures.kept in
+    let all = c.in_ok-told-in-While.ensures ∙ told_here j n.formulas c.around-around.ensures c.deref-in-While.ensures.value in
+    let around = ap (λ (vs : List Variable). at (setting c.args.setting) vs) c.in_ok-inner-in-While.ensures.kept in
     let inner = c.in_ok-inner-in-While.ensures.typed ∙ ap (λ (z : Stmt). typed_statement j k (from n c.in_ok-told-in-While.told.next) (view.stm z)) c.deref-in-While-2.ensures in
-    told row c.while_row.result c.while_row.ensures (while_step j n s.span (view.exp s.test) is (view.stm s.body.value) around all inner ∙ form j k n c.args.x.now _ s.is)
-
-pub statement-returns-in_ok-inner-in-Do-clause-typed : goal.statement-returns-in_ok-inner-in-Do-clause-typed
-statement-returns-in_ok-inner-in-Do-clause-typed t c =
-    let k = at (setting c.args.setting) (known c.args.variables.now) in
-    let j = numbering c.args.numbering in
-    let n = before c.args.before in
-    let s = c.in-Do in
-    let is = map view.invariant s.all.items in
-    let all = c.in_ok-told-in-Do.ensures ∙ told_here j n.formulas c.around-around-in-Do.ensures c.deref-in-Do.ensures.value in
-    let around = c.around-around-in-Do-2.ensures ∙ ap (λ (vs : List Variable). at (setting c.args.setting) vs) c.in_ok-inner-in-Do.ensures.kept in
-    let inner = c.in_ok-inner-in-Do.ensures.typed ∙ ap (λ (z : Stmt). typed_statement j k (from n c.in_ok-told-in-Do.told.next) (view.stm z)) c.deref-in-Do-2.ensures in
-    told row c.do_row.result c.do_row.ensures (do_step j n s.span is (view.stm s.body.value) s.tested (view.exp s.test) around all inner ∙ form j k n c.args.x.now _ s.is)
-
-pub statement-returns-in_ok-inner-in-For-clause-typed : goal.statement-returns-in_ok-inner-in-For-clause-typed
-statement-returns-in_ok-inner-in-For-clause-typed t c =
-    let k = at (setting c.args.setting) (known c.args.variables.now) in
-    let j = numbering c.args.numbering in
-    let n = before c.args.before in
-    let s = c.in-For in
-    let is = map view.invariant s.all.items in
-    let all = c.in_ok-told-in-For.ensures ∙ told_here j n.formulas c.around-around-in-For.ensures c.deref-in-For.ensures.value in
-    let around = c.around-around-in-For-2.ensures ∙ ap (λ (vs : List Variable). at (setting c.args.setting) vs) c.in_ok-inner-in-For.ensures.kept in
-    let inner = c.in_ok-inner-in-For.ensures.typed ∙ ap (λ (z : Stmt). typed_statement j k (from n c.in_ok-told-in-For.told.next) (view.stm z)) c.deref-in-For-2.ensures in
-    told row c.for_row.result c.for_row.ensures (for_step j n s.span (option_map view.assignment s.before_it) (view.exp s.test) (option_map view.assignment s.after) is (view.stm s.body.value) around c.around-around-in-For.ensures c.in_ok-front-in-For.ensures all inner ∙ form j k n c.args.x.now _ s.is)
-
-pub statement-returns-in-Return-clause-typed : goal.statement-returns-in-Return-clause-typed
-statement-returns-in-Return-clause-typed t c =
-    let k = at (setting c.args.setting) (known c.args.variables.now) in
-    let j = numbering c.args.numbering in
-    let n = before c.args.before in
-    let s = c.in-Return in
-    told row c.return_row.result c.return_row.ensures (ap (λ (a : Around). single n (trees.Return s.span.line (st.returned a (option_map view.exp s.value)))) c.around-around-in-Return.ensures ∙ (return_law j k n s.span (option_map view.exp s.value) ∙ form j k n c.args.x.now _ s.is))
+    told row c.loop_row.result c.loop_row.ensures (loop_step j n c.args.x.now s.all s.body around all inner s.is)
 
 pub statement-returns-in-Spawn-clause-typed : goal.statement-returns-in-Spawn-clause-typed
 statement-returns-in-Spawn-clause-typed t c =
     let k = at (setting c.args.setting) (known c.args.variables.now) in
-    let j = numbering c.args.numbering in
-    let n = before c.args.before in
-    let s = c.in-Spawn in
-    told row c.spawn.result c.spawn.ensures (ap (λ (a : Around). single n (trees.Do s.span.line (trees.SpawnThread (function_number a.context.scope.items (view.call s.called).function) (st.arguments a (view.call s.called))))) c.around-around-in-Spawn.ensures ∙ (spawn_law j k n s.span (view.call s.called) ∙ form j k n c.args.x.now _ s.is))
-
-pub statement-returns-in-Free-clause-typed : goal.statement-returns-in-Free-clause-typed
-statement-returns-in-Free-clause-typed t c =
-    let k = at (setting c.args.setting) (known c.args.variables.now) in
-    let j = numbering c.args.numbering in
-    let n = before c.args.before in
-    let s = c.in-Free in
-    told row c.free.result c.free.ensures (ap (λ (a : Around). single n (trees.Do s.span.line (trees.FreeObject (code a (view.exp s.pointer))))) c.around-around-in-Free.ensures ∙ (free_law j k n s.span (view.exp s.pointer) ∙ form j k n c.args.x.now _ s.is))
-
-pub statement-returns-in-Assert-clause-typed : goal.statement-returns-in-Assert-clause-typed
-statement-returns-in-Assert-clause-typed t c =
-    let k = at (setting c.args.setting) (known c.args.variables.now) in
-    let j = numbering c.args.numbering in
-    let n = before c.args.before in
-    let s = c.in-Assert in
-    told row c.assertion.result c.assertion.ensures (ap (λ (a : Around). asserted j a n s.span.line (view.exp s.property)) c.around-around-in-Assert.ensures ∙ form j k n c.args.x.now _ s.is)
+    told row c.action_row.result c.action_row.ensures (action_alone (numbering c.args.numbering) k (before c.args.before) c.in-Spawn.span c.args.x.now c.in-Spawn.is)
 
 pub statement-returns-in-Ghost-clause-typed : goal.statement-returns-in-Ghost-clause-typed
 statement-returns-in-Ghost-clause-typed t c =
@@ -160,22 +78,6 @@ statement-returns-in-Ghost-clause-typed t c =
     let s = c.in-Ghost in
     told row c.ghost_statement.result c.ghost_statement.ensures.typed (ghost_law j k n s.field-0 (view.ghost s.inner) ∙ form j k n c.args.x.now _ s.is)
 
-pub statement-returns-in-Wrap-clause-typed : goal.statement-returns-in-Wrap-clause-typed
-statement-returns-in-Wrap-clause-typed t c =
-    let k = at (setting c.args.setting) (known c.args.variables.now) in
-    let j = numbering c.args.numbering in
-    let n = before c.args.before in
-    let s = c.in-Wrap in
-    told row c.wrap.result c.wrap.ensures (ap (λ (a : Around). single (plus n (some_formulas 1)) (trees.Do s.span.line (trees.WrapObject (struct_at a (view.exp s.object)) n.formulas (code a (view.exp s.object))))) c.around-around-in-Wrap.ensures ∙ form j k n c.args.x.now _ s.is)
-
-pub statement-returns-in-Unwrap-clause-typed : goal.statement-returns-in-Unwrap-clause-typed
-statement-returns-in-Unwrap-clause-typed t c =
-    let k = at (setting c.args.setting) (known c.args.variables.now) in
-    let j = numbering c.args.numbering in
-    let n = before c.args.before in
-    let s = c.in-Unwrap in
-    told row c.unwrap.result c.unwrap.ensures (ap (λ (a : Around). single n (trees.Do s.span.line (trees.UnwrapObject (code a (view.exp s.object))))) c.around-around-in-Unwrap.ensures ∙ (unwrap_law j k n s.span (view.exp s.object) ∙ form j k n c.args.x.now _ s.is))
-
 pub statement-returns-in_ok-inner-in-Unwrapping-clause-typed : goal.statement-returns-in_ok-inner-in-Unwrapping-clause-typed
 statement-returns-in_ok-inner-in-Unwrapping-clause-typed t c =
     let k = at (setting c.args.setting) (known c.args.variables.now) in
@@ -184,7 +86,7 @@ statement-returns-in_ok-inner-in-Unwrapping-clause-typed t c =
     let s = c.in-Unwrapping in
     let items = c.deref-in-Unwrapping.result.now in
     let ss = stms_of (map view.stm items) in
-    let around = c.around-around-in-Unwrapping.ensures ∙ ap (λ (vs : List Variable). at (setting c.args.setting) vs) c.in_ok-inner-in-Unwrapping.ensures.kept in
+    let around = ap (λ (vs : List Variable). at (setting c.args.setting) vs) c.in_ok-inner-in-Unwrapping.ensures.kept in
     let shown = ap (λ (z : Stm). typed_statement j k n z) (unwrapping_stm c.args.x.now s.span s.object s.all s.field-3 items s.is c.deref-in-Unwrapping.ensures.value) in
     told row c.unwrapping_row.result c.unwrapping_row.ensures (unwrapping_step j n s.span (view.exp s.object) ss s.field-3 around c.in_ok-start-in-Unwrapping.ensures c.in_ok-inner-in-Unwrapping.ensures.typed ∙ sym shown)
 
@@ -197,7 +99,7 @@ statement-returns-in_ok-inner-in-Atomic-clause-typed t c =
     let items = c.deref-in-Atomic.result.now in
     let objects = c.deref-in-Atomic-2.result.now in
     let ss = stms_of (map view.stm items) in
-    let around = c.around-around-in-Atomic.ensures ∙ ap (λ (vs : List Variable). at (setting c.args.setting) vs) c.in_ok-inner-in-Atomic.ensures.kept in
+    let around = ap (λ (vs : List Variable). at (setting c.args.setting) vs) c.in_ok-inner-in-Atomic.ensures.kept in
     let shown = ap (λ (z : Stm). typed_statement j k n z) (atomic_stm c.args.x.now s.span s.objects s.all s.field-3 objects items s.is c.deref-in-Atomic-2.ensures.value c.deref-in-Atomic.ensures.value) in
     told row c.atomic_row.result c.atomic_row.ensures (atomic_step j n s.span (view.exps objects) ss s.field-3 around c.in_ok-inner-in-Atomic.ensures.typed ∙ sym shown)
 

@@ -1,4 +1,4 @@
-use Rattle.std.proofs.Common.{◌∙◌, ◌-◌, sym, ap, arith, map, Vec, Box, Ok}
+use Rattle.std.proofs.Common.{◌∙◌, ◌-◌, sym, ap, arith, map, Vec, Ok}
 use Rattle.std.proofs.lemmas.Result.{err_from_is_err_and}
 use Rattle.std.specs.declared.alloc.Global.{Global}
 use Rattle.c_syntax.specs.declared.statements.Stmt.{Stmt}
@@ -11,7 +11,7 @@ use Rattle.reader_assignments.proofs.Begun.{mapped}
 use Rattle.reader_assignments.proofs.Repeats.{going, start, stop, goes, fails, shorter}
 use Rattle.reader_statements.specs.Fronts.{completed}
 use Rattle.reader_statements.specs.Rows.{one_statement, bodied, as_block}
-use Rattle.reader_statements.specs.Views.{braces, body}
+use Rattle.reader_statements.specs.Views.{braces, body, in_box}
 use Rattle.reader_statements.proofs.Alike.{block_mapped}
 use Rattle.reader_statements.proofs.Forms.{begins_one, fine_statement, some_statement}
 use Rattle.reader_statements.proofs.Openings.{begun_err}
@@ -42,28 +42,28 @@ pub block_tail-returns-clause-gives : goal.block_tail-returns-clause-gives
 block_tail-returns-clause-gives t c = same_gives braces c.block_rule.result _ _ (reads_rule c.args.room g.BlockOf (lexemes c.args.tokens.now) c.if-room-eq0.false) c.block_rule.ensures.gives
 
 pub block-returns-in_err-found-clause-gives : goal.block-returns-in_err-found-clause-gives
-block-returns-in_err-found-clause-gives t c = let p = err_from_is_err_and c.from_residual.result c.from_residual.ensures.1 in rw (p.1, p.2) (first_err braces stm _ _ _ _ (block_mapped c.args.room (lexemes c.args.tokens.now)) c.in_err-found.ensures.gives)
+block-returns-in_err-found-clause-gives t c = let p = err_from_is_err_and c.from_residual.result c.from_residual.ensures.1 in rw (p.1, p.2) (first_err braces in_box _ _ _ _ (block_mapped c.args.room (lexemes c.args.tokens.now)) c.in_err-found.ensures.gives)
 
 pub block-returns-clause-gives : goal.block-returns-clause-gives
-block-returns-clause-gives t c = block_mapped c.args.room (lexemes c.args.tokens.now) ∙ ap (mapped as_block) c.in_ok-found.ensures.gives ∙ ap (λ v. Ok (v, c.in_ok-found.found.height, lexemes c.in_ok-found.found.rest.now)) (sym c.block_of.ensures)
+block-returns-clause-gives t c = block_mapped c.args.room (lexemes c.args.tokens.now) ∙ ap (mapped as_block) c.in_ok-found.ensures.gives ∙ ap (λ v. Ok (v, c.in_ok-found.found.height, lexemes c.in_ok-found.found.rest.now)) (sym c.block_of.ensures) ∙ ap (λ x. Ok (stm x, c.in_ok-found.found.height, lexemes c.in_ok-found.found.rest.now)) (sym c.in_ok-value.ensures.ok)
 
 pub loop_body-returns-in_err-found-clause-gives : goal.loop_body-returns-in_err-found-clause-gives
 loop_body-returns-in_err-found-clause-gives t c = let p = err_from_is_err_and c.from_residual.result c.from_residual.ensures.1 in rw (p.1, p.2) c.in_err-found.ensures.err
 
 pub loop_body-returns-in_err-held-clause-gives : goal.loop_body-returns-in_err-held-clause-gives
-loop_body-returns-in_err-held-clause-gives t c = let p = err_from_is_err_and c.from_residual-in_err-held.result c.from_residual-in_err-held.ensures.1 in rw (p.1, p.2) (first_err (λ (b : Box Stmt Global). stm b.value) body _ _ _ _ c.in_ok-found.ensures.ok c.in_err-held.ensures.gives)
+loop_body-returns-in_err-held-clause-gives t c = let p = err_from_is_err_and c.from_residual-in_err-held.result c.from_residual-in_err-held.ensures.1 in rw (p.1, p.2) (first_err in_box body _ _ _ _ c.in_ok-found.ensures.ok c.in_err-held.ensures.gives)
 
 pub loop_body-returns-clause-gives : goal.loop_body-returns-clause-gives
 loop_body-returns-clause-gives t c = c.in_ok-found.ensures.ok ∙ ap (bodied _ _) c.in_ok-held.ensures.gives ∙ ap (λ i. Ok ((map invariant c.in_ok-found.found.value.items, stm c.in_ok-held.held.value.value), i, lexemes c.in_ok-held.held.rest.now)) (sym c.max.ensures)
 
 pub complete-returns-in-Block-clause-gives : goal.complete-returns-in-Block-clause-gives
-complete-returns-in-Block-clause-gives t c = same_gives stm c.block.result _ _ (ap (λ x. completed c.args.room x c.args.height (lexemes c.args.tokens.now)) c.in-Block.is) c.block.ensures.gives
+complete-returns-in-Block-clause-gives t c = same_gives in_box c.block.result _ _ (ap (λ x. completed c.args.room x c.args.height (lexemes c.args.tokens.now)) c.in-Block.is) c.block.ensures.gives
 
-pub statement-returns-then-room-eq0-clause-gives : goal.statement-returns-then-room-eq0-clause-gives
-statement-returns-then-room-eq0-clause-gives t c = reads_none c.args.room g.Statement (lexemes c.args.tokens.now) c.if-room-eq0.true
+pub inner-returns-then-room-eq0-clause-gives : goal.inner-returns-then-room-eq0-clause-gives
+inner-returns-then-room-eq0-clause-gives t c = reads_none c.args.room g.Statement (lexemes c.args.tokens.now) c.if-room-eq0.true
 
-pub statement-returns-in_err-opening-clause-gives : goal.statement-returns-in_err-opening-clause-gives
-statement-returns-in_err-opening-clause-gives t c = let p = err_from_is_err_and c.from_residual.result c.from_residual.ensures.1 in rw (p.1, p.2) (begun_err (c.args.room - 1) _ _ _ (reads_rule c.args.room g.Statement (lexemes c.args.tokens.now) c.if-room-eq0.false) c.in_err-opening.ensures.begins)
+pub inner-returns-in_err-opening-clause-gives : goal.inner-returns-in_err-opening-clause-gives
+inner-returns-in_err-opening-clause-gives t c = let p = err_from_is_err_and c.from_residual.result c.from_residual.ensures.1 in rw (p.1, p.2) (begun_err (c.args.room - 1) _ _ _ (reads_rule c.args.room g.Statement (lexemes c.args.tokens.now) c.if-room-eq0.false) c.in_err-opening.ensures.begins)
 
-pub statement-returns-clause-gives : goal.statement-returns-clause-gives
-statement-returns-clause-gives t c = same_gives stm c.complete.result _ _ (reads_rule c.args.room g.Statement (lexemes c.args.tokens.now) c.if-room-eq0.false ∙ c.in_ok-opening.ensures.begins) c.complete.ensures.gives
+pub inner-returns-clause-gives : goal.inner-returns-clause-gives
+inner-returns-clause-gives t c = same_gives in_box c.complete.result _ _ (reads_rule c.args.room g.Statement (lexemes c.args.tokens.now) c.if-room-eq0.false ∙ c.in_ok-opening.ensures.begins) c.complete.ensures.gives

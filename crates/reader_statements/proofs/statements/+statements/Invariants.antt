@@ -21,7 +21,7 @@ abbrev pub decreases-block_tail : goal.decreases-block_tail
 decreases-block_tail l = 16 * l.room
 
 abbrev pub decreases-inner : goal.decreases-inner
-decreases-inner l = 16 * l.room + 1
+decreases-inner l = 16 * l.room
 
 abbrev pub decreases-maybe_else : goal.decreases-maybe_else
 decreases-maybe_else l = 16 * l.room + 2
@@ -40,9 +40,6 @@ decreases-annotated_block l = 16 * l.room + 4
 
 abbrev pub decreases-complete : goal.decreases-complete
 decreases-complete l = 16 * l.room + 8
-
-abbrev pub decreases-statement : goal.decreases-statement
-decreases-statement l = 16 * l.room
 
 abbrev pub invariant-statements-loop-alloc : goal.invariant-statements-loop-alloc
 invariant-statements-loop-alloc l = record {
