@@ -1,7 +1,8 @@
 -- Worked rows: texts, as tokens, with how high their item is, or with the first token that doesn't go on.
-use Rattle.std.specs.Prelude.{ℕ, suc, ◌+◌, Bool, true, false, ◌&&◌, ◌==◌, List, [], ◌∷◌, ◌++◌, length, replicate, Result, Ok, Err}
+use Rattle.std.specs.Prelude.{ℕ, suc, ◌+◌, Bool, true, false, ◌&&◌, ◌==◌, List, [], ◌∷◌, ◌++◌, length, replicate, Some, Result, Ok, Err}
 use Rattle.std.specs.List.{list_all}
 use Rattle.std.proofs.Common.{◌≡◌, refl}
+use Rattle.int_ranges.specs.declared.ctype.CType.TheVariants as c
 use Rattle.int_ranges.specs.declared.ctype.CType.TheVariants.{Int}
 use Rattle.ebnf.specs.Sets.{first, first_rule, low, low_rule, is_empty}
 use Rattle.ebnf.specs.Reading.{Fault, Unexpected, TooDeep, Out, read, links, climbs, read_rule, reads}
@@ -10,16 +11,20 @@ use Rattle.c_syntax.specs.declared.token.SpecWord.TheVariants as w
 use Rattle.c_syntax.specs.declared.token.Sign.TheVariants as s
 use Rattle.c_syntax.specs.Tokens.{Word, Name, Key, Spec, Number, Mark, End}
 use Rattle.c_syntax.specs.Lexing.{Lexeme}
+use Rattle.c_syntax.specs.Items as i
 use Rattle.c_syntax.specs.Items.{Item}
+use Rattle.c_syntax.specs.Statements as st
 use Rattle.c_syntax.specs.Language.{language}
 use Rattle.c_syntax.specs.Laws.{read_items}
 use Rattle.c_syntax.specs.Faults.{SyntaxFault, UnexpectedToken, UnknownForm, TooHigh, read_source}
 use Rattle.c_syntax.specs.declared.token.Span.{Span}
+use Rattle.c_syntax.specs.declared.tree.Attribute.TheVariants as attributes
+use Rattle.c_syntax.specs.declared.tree.Condition.TheVariants as conditions
 use Rattle.c_syntax.specs.declared.tree.BinaryOperator.TheVariants as op
 use Rattle.c_syntax.specs.declared.tree.Quantifier.TheVariants as quantifiers
 use Rattle.c_syntax.specs.Expressions as e
 use Rattle.c_syntax.specs.Expressions.{Id}
-use Rattle.c_syntax.specs.Grammar.{Level, InSpec, Equivalence}
+use Rattle.c_syntax.specs.Grammar.{Level, Program, InSpec, Equivalence}
 
 -- words, each where the next comes, and the end
 abbrev placed : ℕ → List Word → List Lexeme
@@ -248,6 +253,14 @@ items =
     item 6 (Key k.Void ∷ name ∷ Mark s.Open ∷ Mark s.Close ∷ Mark s.BraceOpen ∷ Mark s.Open ∷ name ∷ Mark s.Close ∷ Mark s.Arrow ∷ name ∷ Mark s.Assign ∷ number ∷ Mark s.Semicolon ∷ Mark s.BraceClose ∷ []) ∷
     -- void f() { p = malloc(sizeof(struct S)); }
     item 5 (Key k.Void ∷ name ∷ Mark s.Open ∷ Mark s.Close ∷ Mark s.BraceOpen ∷ name ∷ Mark s.Assign ∷ Key k.Malloc ∷ Mark s.Open ∷ Key k.Sizeof ∷ Mark s.Open ∷ Key k.Struct ∷ name ∷ Mark s.Close ∷ Mark s.Close ∷ Mark s.Semicolon ∷ Mark s.BraceClose ∷ []) ∷
+    -- void f() { _(assert a ==> b ? c : (((d)))) }
+    item 9 (Key k.Void ∷ name ∷ Mark s.Open ∷ Mark s.Close ∷ Mark s.BraceOpen ∷ Mark s.Annotation ∷ Key k.Assert ∷ name ∷ Mark s.Implies ∷ name ∷ Mark s.Question ∷ name ∷ Mark s.Colon ∷ Mark s.Open ∷ Mark s.Open ∷ Mark s.Open ∷ name ∷ Mark s.Close ∷ Mark s.Close ∷ Mark s.Close ∷ Mark s.Close ∷ Mark s.BraceClose ∷ []) ∷
+    -- void f() { _(assert (((a))) ? b : c ==> d) }
+    item 9 (Key k.Void ∷ name ∷ Mark s.Open ∷ Mark s.Close ∷ Mark s.BraceOpen ∷ Mark s.Annotation ∷ Key k.Assert ∷ Mark s.Open ∷ Mark s.Open ∷ Mark s.Open ∷ name ∷ Mark s.Close ∷ Mark s.Close ∷ Mark s.Close ∷ Mark s.Question ∷ name ∷ Mark s.Colon ∷ name ∷ Mark s.Implies ∷ name ∷ Mark s.Close ∷ Mark s.BraceClose ∷ []) ∷
+    -- void f() { _(assert a && \forall \claim c; c || (((b)))) }
+    item 10 (Key k.Void ∷ name ∷ Mark s.Open ∷ Mark s.Close ∷ Mark s.BraceOpen ∷ Mark s.Annotation ∷ Key k.Assert ∷ name ∷ Mark s.And ∷ Spec w.Forall ∷ Spec w.Claim ∷ name ∷ Mark s.Semicolon ∷ name ∷ Mark s.Or ∷ Mark s.Open ∷ Mark s.Open ∷ Mark s.Open ∷ name ∷ Mark s.Close ∷ Mark s.Close ∷ Mark s.Close ∷ Mark s.Close ∷ Mark s.BraceClose ∷ []) ∷
+    -- void f() { if (a) if (b) ; else { { { } } } }
+    item 7 (Key k.Void ∷ name ∷ Mark s.Open ∷ Mark s.Close ∷ Mark s.BraceOpen ∷ Key k.If ∷ Mark s.Open ∷ name ∷ Mark s.Close ∷ Key k.If ∷ Mark s.Open ∷ name ∷ Mark s.Close ∷ Mark s.Semicolon ∷ Key k.Else ∷ Mark s.BraceOpen ∷ Mark s.BraceOpen ∷ Mark s.BraceOpen ∷ Mark s.BraceClose ∷ Mark s.BraceClose ∷ Mark s.BraceClose ∷ Mark s.BraceClose ∷ []) ∷
     []
 
 abbrev faults : List Bool
@@ -592,3 +605,19 @@ quantified = name ∷ Spec w.In ∷ Spec w.Forall ∷ Spec w.Object ∷ name ∷
 quantified_holds : reads language 6 (Level InSpec Equivalence) (placed 1 quantified) ≡ Ok (e.Binary (at 2) op.In (e.Name (id 1)) (e.Owns (at 12) (e.Quantified (at 3) quantifiers.ForAll e.Object (id 5) (e.Binary (at 8) op.In (e.Name (id 7)) (e.Owns (at 10) (e.Name (id 9)) (at 11)))) (at 13)), 6, placed 14 [])
 unfolding reads read links climbs read_rule first first_rule low low_rule is_empty
 quantified_holds = refl
+
+-- _(volatile_owns, claimable) _(dynamic_owns) struct a { unsigned a; _(ghost volatile \claim a) _(invariant a) };
+abbrev attributed : List Word
+attributed = Mark s.Annotation ∷ Key k.VolatileOwns ∷ Mark s.Comma ∷ Key k.Claimable ∷ Mark s.Close ∷ Mark s.Annotation ∷ Key k.DynamicOwns ∷ Mark s.Close ∷ Key k.Struct ∷ name ∷ Mark s.BraceOpen ∷ Key k.Unsigned ∷ name ∷ Mark s.Semicolon ∷ Mark s.Annotation ∷ Key k.Ghost ∷ Key k.Volatile ∷ Spec w.Claim ∷ name ∷ Mark s.Close ∷ Mark s.Annotation ∷ Key k.Invariant ∷ name ∷ Mark s.Close ∷ Mark s.BraceClose ∷ Mark s.Semicolon ∷ []
+
+attributed_holds : reads language 4 Program (placed 1 attributed) ≡ Ok (i.Struct (record { attributes = attributes.VolatileOwns ∷ attributes.Claimable ∷ attributes.DynamicOwns ∷ []; place = at 9; name = id 10; members = i.Field (record { is_ghost = false; is_volatile = false; ty = e.Integer c.Unsigned; name = id 13 }) ∷ i.Field (record { is_ghost = true; is_volatile = true; ty = e.Claim; name = id 19 }) ∷ i.Invariant (record { place = at 21; property = e.Name (id 23) }) ∷ [] }) ∷ [], 4, placed 27 [])
+unfolding reads read links climbs read_rule first first_rule low low_rule is_empty
+attributed_holds = refl
+
+-- unsigned long long a(int a, struct a *a _(ghost \claim a)) _(requires a) _(writes a, \span(a), \extent(a)) { ; }
+abbrev contracted : List Word
+contracted = Key k.Unsigned ∷ Key k.Long ∷ Key k.Long ∷ name ∷ Mark s.Open ∷ Key k.Int ∷ name ∷ Mark s.Comma ∷ Key k.Struct ∷ name ∷ Mark s.Star ∷ name ∷ Mark s.Annotation ∷ Key k.Ghost ∷ Spec w.Claim ∷ name ∷ Mark s.Close ∷ Mark s.Close ∷ Mark s.Annotation ∷ Key k.Requires ∷ name ∷ Mark s.Close ∷ Mark s.Annotation ∷ Key k.Writes ∷ name ∷ Mark s.Comma ∷ Spec w.Span ∷ Mark s.Open ∷ name ∷ Mark s.Close ∷ Mark s.Comma ∷ Spec w.Extent ∷ Mark s.Open ∷ name ∷ Mark s.Close ∷ Mark s.Close ∷ Mark s.BraceOpen ∷ Mark s.Semicolon ∷ Mark s.BraceClose ∷ []
+
+contracted_holds : reads language 5 Program (placed 1 contracted) ≡ Ok (i.Function (record { place = at 1; value = Some (e.Integer c.UnsignedLongLong); name = id 4; parameters = record { ty = e.Integer c.Int; name = id 7 } ∷ record { ty = e.Pointer (id 10); name = id 12 } ∷ []; ghost_parameters = record { ty = e.Claim; name = id 16 } ∷ []; contract = i.Holds (at 19) conditions.Requires (e.Name (id 21)) ∷ i.Writes (at 23) (i.Thing (e.Name (id 25)) ∷ i.SpanOf (at 27) (e.Name (id 29)) ∷ i.ExtentOf (at 32) (e.Name (id 34)) ∷ []) ∷ []; body = record { start = at 37; all = st.More (st.Skip (at 38)) st.Empty; end = at 39 } }) ∷ [], 5, placed 40 [])
+unfolding reads read links climbs read_rule first first_rule low low_rule is_empty
+contracted_holds = refl
