@@ -10,7 +10,7 @@ use std::alloc::{AllocError, Global};
 use std::fmt::Write;
 use term_graph::graph::Graph;
 use terms::term::{Kind, Term};
-use vcc_cli::program::typed_program;
+use vcc_io::program::typed_program;
 
 /// Adds the conditions of an item, each with its terms from 0 on.
 fn add_conditions(

@@ -8,7 +8,7 @@ use std::alloc::{AllocError, Global};
 use std::fmt::Write;
 use std::process::Abort;
 use test_sources::ATOMIC;
-use vcc_cli::program::typed_program;
+use vcc_io::program::typed_program;
 
 /// A source, and its labels in order.
 const ROWS: &[(&str, &str)] = &[

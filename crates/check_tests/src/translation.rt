@@ -10,8 +10,8 @@ use std::fmt::Write;
 use std::process::Abort;
 use term_graph::graph::Graph;
 use terms::term::Term;
-use vcc_cli::program::typed_program;
-use vcc_cli::refusal::Refusal;
+use vcc_io::program::typed_program;
+use vcc_io::refusal::Refusal;
 
 /// A source, and its conditions' terms from 0 on, with a bar between two conditions.
 const ROWS: &[(&str, &str)] = &[

@@ -6,9 +6,9 @@ use std::process::ExitCode;
 use std::rt::Env;
 use std::{env, io};
 use vcc_base::file::{FileStore, OutSink};
-use vcc_cli::refusal::Refusal;
-use vcc_cli::report::report;
 use vcc_cli::vcc_main;
+use vcc_io::refusal::Refusal;
+use vcc_io::report::report;
 
 /// The words behind the program's name.
 fn words(rt: &(impl Env + AllocGlobal)) -> io::Result<Vec<String>> {

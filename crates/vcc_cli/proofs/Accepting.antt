@@ -27,16 +27,18 @@ use Rattle.vcc_base.specs.Maps.{Map}
 use Rattle.vcc_base.specs.Limits.{number_of}
 use Rattle.vcc_base.specs.declared.limit.Limit.{Limit as AnyLimit}
 use Rattle.vcc_base.specs.declared.limit.Limit.TheVariants as limit
-use Rattle.vcc_cli.specs.declared.refusal.Refusal.{Refusal}
-use Rattle.vcc_cli.specs.declared.refusal.Refusal.TheVariants.{BadByte, BadNumber, OpenComment, Unexpected, UnknownForm, BreaksRule, BadCertificate, Wide, Limit, Missing, ReadFault, OutOfMemory}
-use Rattle.vcc_cli.specs.declared.verdict.Verdict.{Verdict}
-use Rattle.vcc_cli.specs.declared.verdict.Verdict.TheVariants.{Yes, No}
+use Rattle.vcc_io.specs.declared.refusal.Refusal.{Refusal}
+use Rattle.vcc_io.specs.declared.refusal.Refusal.TheVariants.{BadByte, BadNumber, OpenComment, Unexpected, UnknownForm, BreaksRule, BadCertificate, Wide, Limit, Missing, ReadFault, OutOfMemory}
+use Rattle.vcc_io.specs.declared.verdict.Verdict.{Verdict}
+use Rattle.vcc_io.specs.declared.verdict.Verdict.TheVariants.{Yes, No}
+use Rattle.vcc_io.specs.Certificates.{IsCertificateStop, IsNoCertificate, cert_fault}
+use Rattle.vcc_io.specs.Held.{HoldsProgram, HoldsTooMuch, IsSourceStop, IsUnread}
+use Rattle.vcc_io.specs.Source.{BreaksFirst, IsSourceRefusal, IsSourceRefusalOrMemory}
+use Rattle.vcc_io.proofs.Counting.{one_block_each}
+use Rattle.vcc_io.proofs.Statuses.{no_refusal}
 use Rattle.vcc_cli.specs.Accepts.{HoldAccepted, IsAcceptable}
-use Rattle.vcc_cli.specs.Checks.{AreJudged, IsCertificateAnswer, IsCertificateStop, IsCheckAnswer, IsNoCertificate, IsProgramAnswer, cert_fault}
-use Rattle.vcc_cli.specs.Held.{HoldsProgram, HoldsTooMuch, IsSourceStop, IsUnread}
-use Rattle.vcc_cli.specs.Source.{BreaksFirst, IsSourceRefusal, IsSourceRefusalOrMemory}
-use Rattle.vcc_cli.proofs.Counting.{one_block_each}
-use Rattle.vcc_cli.proofs.Verdicts.{IsYesOrFault, no_refusal}
+use Rattle.vcc_cli.specs.Checks.{AreJudged, IsCertificateAnswer, IsCheckAnswer, IsProgramAnswer}
+use Rattle.vcc_cli.proofs.Verdicts.{IsYesOrFault}
 
 -- a map holds one value at a place
 one_value : (held : Option (List ℕ)) (a b : List ℕ) → held ≡ Some a → held ≡ Some b → a ≡ b

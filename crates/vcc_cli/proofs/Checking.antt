@@ -18,12 +18,13 @@ use Rattle.cert_format.specs.Text.{Proofs}
 use Rattle.vcc_base.specs.Maps.{Map}
 use Rattle.vcc_base.specs.Limits.{number_of}
 use Rattle.vcc_base.specs.declared.limit.Limit.TheVariants as limit
-use Rattle.vcc_cli.specs.declared.refusal.Refusal.{Refusal}
-use Rattle.vcc_cli.specs.declared.refusal.Refusal.TheVariants.{Count}
-use Rattle.vcc_cli.specs.declared.verdict.Verdict.{Verdict}
+use Rattle.vcc_io.specs.declared.refusal.Refusal.{Refusal}
+use Rattle.vcc_io.specs.declared.refusal.Refusal.TheVariants.{Count}
+use Rattle.vcc_io.specs.declared.verdict.Verdict.{Verdict}
+use Rattle.vcc_io.specs.Certificates.{HoldsCertificate, IsCertificateStop}
+use Rattle.vcc_io.specs.Held.{HoldsProgram}
 use Rattle.vcc_cli.specs.Accepts.{HoldsSafe, IsSafeSource}
-use Rattle.vcc_cli.specs.Checks.{AreJudged, HoldsCertificate, IsCertificateStop, IsProgramAnswer}
-use Rattle.vcc_cli.specs.Held.{HoldsProgram}
+use Rattle.vcc_cli.specs.Checks.{AreJudged, IsProgramAnswer}
 
 abbrev wrong_count : ℕ → ℕ → Result Verdict Refusal
 wrong_count blocks found = Err (Count (record { blocks = blocks; conditions = found }))

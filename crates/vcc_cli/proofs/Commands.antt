@@ -4,12 +4,12 @@ use Rattle.vcc_base.specs.Maps.{Map}
 use Rattle.vcc_words.specs.declared.command.Command.{Command}
 use Rattle.vcc_words.specs.declared.command.Command.TheVariants.{Check, Verify, Upgrade, Run, Gen}
 use Rattle.vcc_words.specs.Words.{IsCheck, IsCommand, IsGen, IsNoCommand, IsUpgrade, IsVerify, Reads}
-use Rattle.vcc_cli.specs.declared.refusal.Refusal.TheVariants.{OutOfMemory}
+use Rattle.vcc_io.specs.declared.refusal.Refusal.TheVariants.{OutOfMemory}
+use Rattle.vcc_io.specs.Lines.{IsReported, Written}
+use Rattle.vcc_io.specs.Faults.{ReadCounts}
 use Rattle.vcc_cli.specs.Accepts.{IsAcceptable, IsAccepted, IsCheckOf, LeavesAccepted, SourceIsSafe}
 use Rattle.vcc_cli.specs.Ends.{Ends, EndsWith, Generates, GetsYes, Keeps, Shows}
 use Rattle.vcc_cli.specs.Generated.{ShowsCopies}
-use Rattle.vcc_cli.specs.Lines.{IsReported, Written}
-use Rattle.vcc_cli.specs.Run.{ReadCounts}
 use Rattle.vcc_cli.specs.Searches.{Stored}
 use Rattle.vcc_cli.specs.Upgrades.{LeavesUpgrade}
 use Rattle.vcc_cli.proofs.Runs.{accepted_run, complete_run, safe_run}

@@ -17,17 +17,17 @@ use Rattle.vcc_judge.proofs.Verified.{yes_is_verified}
 use Rattle.vcc_verify.specs.Outcomes.{Verifies}
 use Rattle.vcc_verify.specs.declared.fault.VerifyFault.{VerifyFault}
 use Rattle.vcc_verify.specs.declared.fault.VerifyFault.TheVariants as verify
-use Rattle.vcc_cli.specs.declared.refusal.Refusal.{Refusal}
-use Rattle.vcc_cli.specs.declared.refusal.Refusal.TheVariants.{Usage, BadByte, BadNumber, OpenComment, Unexpected, UnknownForm, BreaksRule, BadCertificate, Count, BadSchedule, BadArgs, Wide, Exhausted, Limit, Missing, ReadFault, OutOfMemory}
-use Rattle.vcc_cli.specs.declared.verdict.Verdict.{Verdict}
-use Rattle.vcc_cli.specs.declared.verdict.Verdict.TheVariants.{Yes, No}
+use Rattle.vcc_io.specs.declared.refusal.Refusal.{Refusal}
+use Rattle.vcc_io.specs.declared.refusal.Refusal.TheVariants.{Limit}
+use Rattle.vcc_io.specs.declared.verdict.Verdict.{Verdict}
+use Rattle.vcc_io.specs.declared.verdict.Verdict.TheVariants.{Yes, No}
+use Rattle.vcc_io.specs.Lines.{IsReported, Written, copies_line}
+use Rattle.vcc_io.specs.Source.{IsSourceRefusalOrMemory}
+use Rattle.vcc_io.proofs.Statuses.{no_refusal, refusal_past, whole_line}
 use Rattle.vcc_cli.specs.Accepts.{IsGenAccepted}
 use Rattle.vcc_cli.specs.Checks.{IsCertificateAnswer, IsProgramAnswer}
-use Rattle.vcc_cli.specs.Generated.{IsCopiesStop, IsReportedGen, IsSearch, IsSearchAnswer, IsSearchStop, LeavesCertificate, ShowsCopies, cert_name, copies_line}
-use Rattle.vcc_cli.specs.Lines.{IsReported, IsReportedLine, Written, line_of, status_of}
-use Rattle.vcc_cli.specs.Source.{IsSourceRefusalOrMemory}
+use Rattle.vcc_cli.specs.Generated.{IsCopiesStop, IsReportedGen, IsSearch, IsSearchAnswer, IsSearchStop, LeavesCertificate, ShowsCopies, cert_name}
 use Rattle.vcc_cli.proofs.Checking.{safe_source}
-use Rattle.vcc_cli.proofs.Verdicts.{no_refusal}
 
 -- ---- before the search
 
@@ -92,39 +92,6 @@ gen_accepted copies p answer reads annotated safe valid answers is =
     }
 
 -- ---- the status
-
--- the status of a refusal is past that of a no
-past_no : (r : Refusal) → 1 < status_of (Err r)
-past_no Usage = omega arith
-past_no (BadByte place) = omega arith
-past_no (BadNumber place) = omega arith
-past_no (OpenComment place) = omega arith
-past_no (Unexpected place) = omega arith
-past_no (UnknownForm place) = omega arith
-past_no (BreaksRule broken) = omega arith
-past_no (BadCertificate n fault) = omega arith
-past_no (Count counts) = omega arith
-past_no (BadSchedule n fault) = omega arith
-past_no BadArgs = omega arith
-past_no (Wide w) = omega arith
-past_no Exhausted = omega arith
-past_no (Limit l) = omega arith
-past_no (Missing name) = omega arith
-past_no (ReadFault name) = omega arith
-past_no OutOfMemory = omega arith
-
-apart : (a b : ℕ) → a ≡ b → 1 < b → a < 2 → ⊥
-apart a b e big small = omega (arith, e, big, small)
-
--- with a status below 2 the line is whole
-whole_line : (text : List ℕ) (own : ℕ) (w : Written) (status : ℕ) → status < 2 → IsReportedLine text own w status → (status ≡ own) × NowWritten w.before w.after text
-whole_line text own w status small (inl whole) = whole
-whole_line text own w status small (inr (inl failed)) = absurd (apart status 7 failed.0 (omega arith) small)
-whole_line text own w status small (inr (inr wanting)) = absurd (apart status 8 wanting.0 (omega arith) small)
-
--- and it is no refusal's
-refusal_past : (r : Refusal) (w : Written) (status : ℕ) → status < 2 → IsReported (Err r) w status → ⊥
-refusal_past r w status small reported = apart status (status_of (Err r)) (whole_line (line_of (Err r)) (status_of (Err r)) w status small reported).0 (past_no r) small
 
 below_two : (status n : ℕ) → status ≡ n → n < 2 → status < 2
 below_two status n e small = omega (arith, e, small)

@@ -1,17 +1,9 @@
 pub mod Words
-pub mod Counting
-pub mod Programs
-pub mod Counts
-pub mod Sessions
-pub mod Fronts
 pub mod Checking
 pub mod Verdicts
 pub mod Accepting
 pub mod Runs
 pub mod Searching
-pub mod CertificateTexts
 pub mod Upgrading
 pub mod Generating
 pub mod Commands
-pub mod Replaying
-pub mod Printed

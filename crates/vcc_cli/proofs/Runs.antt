@@ -3,12 +3,14 @@ use Rattle.std.specs.Prelude.{codes}
 use Rattle.std.proofs.Common.{◌≡◌, ℕ, ◌≤◌, List, [], ◌∷◌, sym, ◌∙◌, subst, Some}
 use Rattle.vcc_base.specs.Maps.{Map}
 use Rattle.vcc_words.specs.Words.{IsCheck}
+use Rattle.vcc_io.specs.Lines.{Written}
+use Rattle.vcc_io.specs.Faults.{ReadCounts}
+use Rattle.vcc_io.proofs.Statuses.{is_yes}
 use Rattle.vcc_cli.specs.Accepts.{HoldsSafe, IsAcceptable, IsAccepted, IsCheckOf, SourceIsSafe}
 use Rattle.vcc_cli.specs.Ends.{GetsYes}
-use Rattle.vcc_cli.specs.Lines.{Written}
-use Rattle.vcc_cli.specs.Run.{IsChecked, ReadCounts}
+use Rattle.vcc_cli.specs.Checks.{IsChecked}
 use Rattle.vcc_cli.proofs.Accepting.{accepted_answer, accepted_yes}
-use Rattle.vcc_cli.proofs.Verdicts.{gets_yes, is_yes}
+use Rattle.vcc_cli.proofs.Verdicts.{gets_yes}
 
 module _ (m : Map) (words : List (List ℕ)) (source_name cert_name : List ℕ) (reads : ReadCounts) (w : Written) (status : ℕ) (command : IsCheck words source_name cert_name) (checked : IsChecked m source_name cert_name reads w status) where
   -- a check that ends with 0 accepts

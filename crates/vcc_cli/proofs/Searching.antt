@@ -9,15 +9,15 @@ use Rattle.vcc_verify.specs.declared.fault.VerifyFault.{VerifyFault}
 use Rattle.vcc_verify.specs.declared.fault.VerifyFault.TheVariants as verify
 use Rattle.vcc_verify.specs.Outcomes.{Verifies}
 use Rattle.vcc_verify.specs.Texts.{certificate_of, certificate_text}
-use Rattle.vcc_cli.specs.declared.refusal.Refusal.{Refusal}
-use Rattle.vcc_cli.specs.declared.refusal.Refusal.TheVariants.{Limit, OutOfMemory, ReadFault}
+use Rattle.vcc_io.specs.declared.refusal.Refusal.{Refusal}
+use Rattle.vcc_io.specs.declared.refusal.Refusal.TheVariants.{Limit, OutOfMemory, ReadFault}
+use Rattle.vcc_io.specs.Source.{IsManyOrMemory}
+use Rattle.vcc_io.specs.Faults.{IsReadFault}
+use Rattle.vcc_io.specs.Held.{HoldsProgram}
+use Rattle.vcc_io.specs.Lines.{IsReportedLine, Written, write_fault_line, wrote}
+use Rattle.vcc_io.proofs.Statuses.{no_zero, no_zero_line}
 use Rattle.vcc_cli.specs.Accepts.{HoldsSafe, LeavesAccepted}
-use Rattle.vcc_cli.specs.Checks.{IsManyOrMemory}
-use Rattle.vcc_cli.specs.Faults.{IsReadFault}
-use Rattle.vcc_cli.specs.Held.{HoldsProgram}
-use Rattle.vcc_cli.specs.Lines.{IsReportedLine, Written, wrote}
-use Rattle.vcc_cli.specs.Searches.{IsEnding, IsSearched, stored, write_fault_line}
-use Rattle.vcc_cli.proofs.Verdicts.{no_zero}
+use Rattle.vcc_cli.specs.Searches.{IsEnding, IsSearched, stored}
 
 -- conditions are counted by no read
 pub no_read_fault : (p : Program) (r : Refusal) → IsManyOrMemory p r → IsReadFault {X = Program} (Err r) → ⊥
@@ -86,12 +86,6 @@ module _ (m : Map) (source_name cert_name : List ℕ) (p : Program) (holds : Hol
         left now old middle (subst (λ (r : Result Bool VerifyFault). Verifies p cert_name (Some m) now old middle r) is (subst (λ (o : Option Map). Verifies p cert_name o now old middle result) given verifies))
 
 -- ---- status 0
-
--- a write fault has another status
-pub no_zero_line : (text : List ℕ) (w : Written) (status : ℕ) → IsReportedLine text 7 w status → status ≡ 0 → ⊥
-no_zero_line text w status (inl whole) zeroed = let seven : status ≡ 7 = whole.0 in omega (arith, seven, zeroed)
-no_zero_line text w status (inr (inl failed)) zeroed = let seven : status ≡ 7 = failed.0 in omega (arith, seven, zeroed)
-no_zero_line text w status (inr (inr wanting)) zeroed = let eight : status ≡ 8 = wanting.0 in omega (arith, eight, zeroed)
 
 -- a search that ends with status 0 answers yes
 pub yes_only : (cert : List ℕ) (result : Result Bool VerifyFault) (w : Written) (status : ℕ) → IsEnding cert result w status → status ≡ 0 → result ≡ Ok true

@@ -4,12 +4,13 @@ use Rattle.vcc_base.specs.Maps.{Map, NowWritten}
 use Rattle.vcc_base.specs.declared.limit.Limit.TheVariants.{Terms}
 use Rattle.vcc_words.specs.declared.command.Command.{Command}
 use Rattle.vcc_words.specs.declared.command.Command.TheVariants.{Check, Verify, Upgrade, Run, Gen}
-use Rattle.vcc_words.specs.Words.{IsCheck, IsNoCommand}
+use Rattle.vcc_words.specs.Words.{IsCheck, IsNoCommand, IsRunCommand}
+use Rattle.vcc_io.specs.declared.refusal.Refusal.TheVariants.{Usage, Limit, OutOfMemory}
+use Rattle.vcc_io.specs.Faults.{ReadCounts}
+use Rattle.vcc_io.specs.Lines.{Written, IsReported, line_of}
+use Rattle.vcc_io.specs.Replays.{IsRunOfNames}
 use Rattle.vcc_cli.specs.Accepts.{HoldsSafe, LeavesAccepted}
-use Rattle.vcc_cli.specs.declared.refusal.Refusal.TheVariants.{Usage, Limit, OutOfMemory}
-use Rattle.vcc_cli.specs.Lines.{Written, IsReported, line_of}
-use Rattle.vcc_cli.specs.Run.{ReadCounts, IsChecked}
-use Rattle.vcc_cli.specs.Replays.{IsRunOf, IsRunOfNames}
+use Rattle.vcc_cli.specs.Checks.{IsChecked}
 use Rattle.vcc_cli.specs.Searches.{Stored, IsVerifyOf, IsVerifyOfNames}
 use Rattle.vcc_cli.specs.Upgrades.{IsUpgradeOf, IsUpgradeOfNames, LeavesUpgrade}
 use Rattle.vcc_cli.specs.Generated.{IsGenOf, IsGenOfNumber, ShowsCopies}
@@ -58,6 +59,13 @@ pub record IsCheckedOf (m : Map) (words : List (List ℕ)) (reads : ReadCounts) 
   pub cert_name : List ℕ
   pub command : IsCheck words source_name cert_name
   pub checked : IsChecked m source_name cert_name reads w status
+
+-- The words are a run, and what it prints and its status are those of its names.
+pub record IsRunOf (m : Map) (words : List (List ℕ)) (reads : ReadCounts) (w : Written) (status : ℕ) : Type 0 where
+  pub source_name : List ℕ
+  pub schedule_name : List ℕ
+  pub command : IsRunCommand words source_name schedule_name
+  pub answered : IsRunOfNames m source_name schedule_name reads w status
 
 -- What the words come to: no command, a check, a run, a verify, a gen, or an upgrade; or memory is wanted to read them, which is reported.
 abbrev pub EndsWith : Map → List (List ℕ) → ReadCounts → Stored → Written → ℕ → Type 0

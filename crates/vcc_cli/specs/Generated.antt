@@ -1,5 +1,5 @@
 -- What a gen prints, and its status. Own.
-use Rattle.std.specs.Prelude.{◌≡◌, ◌⊎◌, ℕ, ◌+◌, ◌*◌, ◌<◌, List, [], ◌++◌, length, codes, decimal, Bool, Option, Some, Result, Ok, Err}
+use Rattle.std.specs.Prelude.{◌≡◌, ◌⊎◌, ℕ, ◌<◌, List, [], length, codes, Bool, Option, Some, Result, Ok, Err}
 use Rattle.generated_source.specs.Sources.{generated}
 use Rattle.method.specs.declared.program.Program.{Program}
 use Rattle.c_types.specs.Typed.{IsProgramOf}
@@ -11,14 +11,14 @@ use Rattle.vcc_verify.specs.Outcomes.{Verifies}
 use Rattle.vcc_verify.specs.declared.fault.VerifyFault.{VerifyFault}
 use Rattle.vcc_verify.specs.declared.fault.VerifyFault.TheVariants as verify
 use Rattle.vcc_words.specs.Words.{IsGen}
-use Rattle.vcc_cli.specs.declared.refusal.Refusal.{Refusal}
-use Rattle.vcc_cli.specs.declared.refusal.Refusal.TheVariants.{Limit}
-use Rattle.vcc_cli.specs.declared.verdict.Verdict.{Verdict}
-use Rattle.vcc_cli.specs.declared.verdict.Verdict.TheVariants.{Yes, No}
+use Rattle.vcc_io.specs.declared.refusal.Refusal.{Refusal}
+use Rattle.vcc_io.specs.declared.refusal.Refusal.TheVariants.{Limit}
+use Rattle.vcc_io.specs.declared.verdict.Verdict.{Verdict}
+use Rattle.vcc_io.specs.declared.verdict.Verdict.TheVariants.{Yes, No}
+use Rattle.vcc_io.specs.Source.{IsManyOrMemory, IsSourceRefusalOrMemory}
+use Rattle.vcc_io.specs.Lines.{Written, IsReported, IsReportedLine, copies_line}
 use Rattle.vcc_cli.specs.Accepts.{IsGenAccepted}
-use Rattle.vcc_cli.specs.Checks.{IsManyOrMemory, IsProgramAnswer, Refuses}
-use Rattle.vcc_cli.specs.Lines.{Written, IsReported, IsReportedLine, line}
-use Rattle.vcc_cli.specs.Source.{IsSourceRefusalOrMemory}
+use Rattle.vcc_cli.specs.Checks.{IsProgramAnswer, Refuses}
 
 -- ---- the search, in a store and a sink of its own
 
@@ -58,11 +58,6 @@ abbrev pub IsGenAnswer : List ℕ → Result Verdict Refusal → Type 0
 IsGenAnswer source answer = Refuses (IsCopiesStop source) answer ⊎ ((p : Program) × IsProgramOf source p × IsSearchAnswer p answer)
 
 -- ---- what is printed
-
--- so many copies, of three types and five functions each, the main function, and what is shown of them
-abbrev pub copies_line : ℕ → List ℕ → List ℕ
-copies_line copies outcome =
-    codes "gen " ++ (decimal copies ++ (codes ": " ++ (decimal (3 * copies) ++ (codes " types, " ++ (decimal (5 * copies + 1) ++ (codes " functions, " ++ line outcome))))))
 
 -- the line of a verdict or of a refusal is written, with its status, or a front of it
 abbrev pub IsReportedGen : ℕ → Result Verdict Refusal → Written → ℕ → Type 0

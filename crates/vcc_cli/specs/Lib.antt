@@ -1,12 +1,5 @@
-pub mod Source
-pub mod Held
 pub mod Accepts
 pub mod Checks
-pub mod Pieces
-pub mod Faults
-pub mod Lines
-pub mod Run
-pub mod Replays
 pub mod Searches
 pub mod Upgrades
 pub mod SecondVersions

@@ -1,5 +1,5 @@
 -- What a verify of a source prints, what it leaves in the store, and its status.
-use Rattle.std.specs.Prelude.{◌≡◌, ◌⊎◌, ℕ, ◌<◌, List, ◌++◌, codes, Bool, true, false, Option, Result, Ok, Err, IsErrOf}
+use Rattle.std.specs.Prelude.{◌≡◌, ◌⊎◌, ℕ, ◌<◌, List, Bool, true, false, Option, Result, Ok, Err, IsErrOf}
 use Rattle.vcc_base.specs.Maps.{Map}
 use Rattle.vcc_base.specs.declared.limit.Limit.TheVariants.{CertBytes}
 use Rattle.vcc_base.specs.declared.store.StoreFault.TheVariants as store
@@ -9,13 +9,12 @@ use Rattle.vcc_verify.specs.declared.fault.VerifyFault.{VerifyFault}
 use Rattle.vcc_verify.specs.declared.fault.VerifyFault.TheVariants as verify
 use Rattle.vcc_verify.specs.Outcomes.{Verifies}
 use Rattle.vcc_words.specs.Words.{IsVerify}
-use Rattle.vcc_cli.specs.declared.refusal.Refusal.{Refusal}
-use Rattle.vcc_cli.specs.declared.refusal.Refusal.TheVariants.{Limit, OutOfMemory}
-use Rattle.vcc_cli.specs.Held.{HoldsProgram, IsSourceStop}
-use Rattle.vcc_cli.specs.Checks.{IsManyOrMemory}
-use Rattle.vcc_cli.specs.Faults.{IsReadFault}
-use Rattle.vcc_cli.specs.Lines.{Written, IsReported, IsReportedLine, line}
-use Rattle.vcc_cli.specs.Run.{ReadCounts}
+use Rattle.vcc_io.specs.declared.refusal.Refusal.{Refusal}
+use Rattle.vcc_io.specs.declared.refusal.Refusal.TheVariants.{Limit, OutOfMemory}
+use Rattle.vcc_io.specs.Source.{IsManyOrMemory}
+use Rattle.vcc_io.specs.Held.{HoldsProgram, IsSourceStop}
+use Rattle.vcc_io.specs.Faults.{IsReadFault, ReadCounts}
+use Rattle.vcc_io.specs.Lines.{Written, IsReported, IsReportedLine, write_fault_line}
 
 -- what a store held before and holds after, where it tells it, and how many of its writes failed before and after
 pub record Stored : Type 0 where
@@ -43,10 +42,6 @@ pub record IsStoppedVerify (m : Map) (source_name : List ℕ) (reads : ReadCount
   pub kept : s.after ≡ s.before
 
 -- ---- the search
-
--- a write that the store didn't take
-abbrev pub write_fault_line : List ℕ → List ℕ
-write_fault_line cert_name = codes "write fault: " ++ line cert_name
 
 -- What stands behind the lines of a search, and the status: nothing where it came to its end; else why it didn't. A sink that took no more gets nothing.
 abbrev pub IsEnding : List ℕ → Result Bool VerifyFault → Written → ℕ → Type 0

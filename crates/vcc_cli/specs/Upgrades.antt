@@ -1,5 +1,5 @@
 -- What an upgrade of a certificate prints, what it leaves in the store, and its status. Own.
-use Rattle.std.specs.Prelude.{◌≡◌, ◌≢◌, ◌⊎◌, ◌↔◌, ℕ, ◌<◌, ◌≤◌, List, ◌++◌, length, codes, decimal, Option, Some, Result, Ok, Err, slice_get}
+use Rattle.std.specs.Prelude.{◌≡◌, ◌≢◌, ◌⊎◌, ◌↔◌, ℕ, ◌<◌, ◌≤◌, List, length, Option, Some, Result, Ok, Err, slice_get}
 use Rattle.vcc_base.specs.Maps.{Map, IfTold, NowHolds}
 use Rattle.vcc_base.specs.Limits.{number_of}
 use Rattle.vcc_base.specs.declared.limit.Limit.TheVariants.{Conditions, CertBytes, Terms}
@@ -16,33 +16,17 @@ use Rattle.certificate_upgrade.specs.Lemmas.{AreFew}
 use Rattle.certificate_upgrade.specs.Upgrade.{formulas_of, upgraded}
 use Rattle.vcc_verify.specs.Outcomes.{LeavesFront}
 use Rattle.vcc_words.specs.Words.{IsUpgrade}
-use Rattle.vcc_cli.specs.declared.refusal.Refusal.{Refusal}
-use Rattle.vcc_cli.specs.declared.refusal.Refusal.TheVariants.{BadCertificate, Count, Limit, OutOfMemory}
-use Rattle.vcc_cli.specs.declared.refusal.LineFault.TheVariants.{BadLine}
-use Rattle.vcc_cli.specs.Checks.{HoldsCertificate, IsCertificateStop}
-use Rattle.vcc_cli.specs.Faults.{IsReadFault}
-use Rattle.vcc_cli.specs.Held.{HoldsProgram, HoldsWithin}
-use Rattle.vcc_cli.specs.Lines.{Written, IsReported, IsReportedLine, line}
-use Rattle.vcc_cli.specs.Run.{ReadCounts}
-use Rattle.vcc_cli.specs.Searches.{IsVerifyStop, Stored, write_fault_line}
+use Rattle.vcc_io.specs.declared.refusal.Refusal.{Refusal}
+use Rattle.vcc_io.specs.declared.refusal.Refusal.TheVariants.{Count, Limit, OutOfMemory}
+use Rattle.vcc_io.specs.Held.{HoldsProgram}
+use Rattle.vcc_io.specs.FirstVersions.{HoldsFirstVersion, IsFirstVersionStop}
+use Rattle.vcc_io.specs.Faults.{IsReadFault, ReadCounts}
+use Rattle.vcc_io.specs.Lines.{Written, IsReported, IsReportedLine, upgrade_line, write_fault_line}
+use Rattle.vcc_cli.specs.Searches.{IsVerifyStop, Stored}
 
--- ---- what is read
+-- ---- its blocks
 
--- The name holds a text whose first line is that of version 2. There is nothing to write anew, and that line is bad.
-pub record HoldsSecondVersion (m : Map) (name : List ℕ) : Type 0 where
-  pub rest : List ℕ
-  pub held : HoldsWithin m name CertBytes (codes "vcc-cert 2\n" ++ rest)
-
--- the certificate's read refuses, or its bytes do, or they are of version 2
-abbrev pub IsFirstVersionStop : Map → List ℕ → Refusal → Type 0
-IsFirstVersionStop m name refusal = IsCertificateStop m name refusal ⊎ (HoldsSecondVersion m name × (refusal ≡ BadCertificate 1 BadLine))
-
--- the name holds a certificate of version 1
-pub record HoldsFirstVersion (m : Map) (name : List ℕ) (proofs : Proofs) : Type 0 where
-  pub holds : HoldsCertificate m name proofs
-  pub version : proofs.version ≡ 1
-
--- it has another number of blocks than the program has conditions
+-- the certificate has another number of blocks than the program has conditions
 pub record IsMiscountedFor (p : Program) (proofs : Proofs) (refusal : Refusal) : Type 0 where
   pub differ : length proofs.blocks ≢ length (conditions p)
   pub is : refusal ≡ Count (record { blocks = length proofs.blocks; conditions = length (conditions p) })
@@ -88,10 +72,6 @@ LeavesText (Ok _) s name text = NowHolds s.before s.after name text
 LeavesText (Err store.Missing) s name text = IfTold s.before (λ m. ⊥)
 LeavesText (Err store.Failed) s name text = LeavesFront s.before s.after name text × (s.faults_before < s.faults_after)
 LeavesText (Err store.OutOfMemory) s name text = LeavesFront s.before s.after name text
-
--- how many lemmas the new certificate has
-abbrev pub upgrade_line : ℕ → List ℕ
-upgrade_line lemmas = codes "upgraded: " ++ (decimal lemmas ++ line (codes " lemmas"))
 
 -- what is printed behind the writing, and the status
 abbrev pub IsWriteEnding : Result (Unit {0}) StoreFault → List ℕ → ℕ → Written → ℕ → Type 0

@@ -8,18 +8,11 @@ ghost use Rattle.condition_meaning.specs.Languages.{language_of};
 ghost use Rattle.condition_meaning.specs.Promises.{ConditionsAreValid};
 ghost use Rattle.vcc_base.specs.Maps.{Map};
 ghost use Rattle.vcc_judge.specs.Verdicts.{IsJudged};
+ghost use Rattle.vcc_io.specs.Faults.{IsReadFault, read_counts};
+ghost use Rattle.vcc_io.specs.Lines.{wrote};
 ghost use Rattle.vcc_cli.specs.Accepts.{HoldsSafe};
-ghost use Rattle.vcc_cli.specs.Checks.{AreJudged, IsProgramAnswer};
-ghost use Rattle.vcc_cli.specs.Faults.{IsReadFault};
-ghost use Rattle.vcc_cli.specs.Lines.{wrote};
-ghost use Rattle.vcc_cli.specs.Run.{IsChecked, read_counts};
+ghost use Rattle.vcc_cli.specs.Checks.{AreJudged, IsChecked, IsProgramAnswer};
 
-use crate::certificate::{Outcome, try_certificate};
-use crate::labels::few_labels;
-use crate::program::read_program;
-use crate::refusal::{BlockCount, Refusal};
-use crate::report::report;
-use crate::verdict::{Failing, Verdict};
 use block_layout::space::Theory;
 use check_labels::names::item_name;
 use method::program::Program;
@@ -29,6 +22,12 @@ use typed_conditions::laws::{sources_are_annotated, sources_are_safe};
 use vcc_base::limit::Limit;
 use vcc_base::sink::Sink;
 use vcc_base::store::Store;
+use vcc_io::certificate::{Outcome, try_certificate};
+use vcc_io::labels::few_labels;
+use vcc_io::program::read_program;
+use vcc_io::refusal::{BlockCount, Refusal};
+use vcc_io::report::report;
+use vcc_io::verdict::{Failing, Verdict};
 use vcc_judge::verdict::{JudgeFault, Verdict as Judgment};
 
 /// The verdict of an outcome, or why there is none.

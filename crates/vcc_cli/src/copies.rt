@@ -1,33 +1,31 @@
 //! The command `gen`.
 
-ghost use Rattle.std.specs.Prelude.{◌≡◌, ◌<◌, ◌≤◌, IfErr, IfOk, IsErrOf, Ok};
+ghost use Rattle.std.specs.Prelude.{◌≡◌, IfErr, IfOk, Ok};
 ghost use Rattle.generated_source.specs.Sources.{generated};
 ghost use Rattle.term_meaning.specs.Meaning.{IsFaithful};
 ghost use Rattle.term_meaning.specs.Filling.{IsLayered};
 ghost use Rattle.condition_meaning.specs.Languages.{language_of};
 ghost use Rattle.condition_meaning.specs.Promises.{ConditionsAreValid};
 ghost use Rattle.c_types.specs.Typed.{IsProgramOf};
-ghost use Rattle.schedule_replay.specs.Printing.{Front, Writes};
 ghost use Rattle.vcc_base.specs.Memory.{look_up};
+ghost use Rattle.vcc_io.specs.Lines.{wrote};
 ghost use Rattle.vcc_cli.specs.Generated.{IsCopiesStop, IsGenOfNumber, IsReportedGen, IsSearchAnswer, IsSearchStop};
-ghost use Rattle.vcc_cli.specs.Generated.{LeavesCertificate, ShowsCopies, copies_line};
-ghost use Rattle.vcc_cli.specs.Lines.{IsReportedLine, wrote};
+ghost use Rattle.vcc_cli.specs.Generated.{LeavesCertificate, ShowsCopies};
 
 use crate::check::judge_name;
-use crate::labels::few_labels;
-use crate::program::typed_program;
-use crate::refusal::Refusal;
-use crate::report::report;
-use crate::verdict::Verdict;
 use generated_source::source::generate;
 use ground_prover::proof::Budget;
 use method::program::Program;
-use schedule_replay::put::{Piece, put_line};
 use std::alloc::Global;
 use typed_conditions::laws::{sources_are_annotated, sources_are_safe};
 use vcc_base::limit::Limit;
 use vcc_base::memory::{MemSink, MemStore};
-use vcc_base::sink::{Sink, SinkFault};
+use vcc_base::sink::Sink;
+use vcc_io::labels::few_labels;
+use vcc_io::program::typed_program;
+use vcc_io::refusal::Refusal;
+use vcc_io::report::{report, report_copies};
+use vcc_io::verdict::Verdict;
 use vcc_verify::fault::VerifyFault;
 use vcc_verify::verify::verify;
 
@@ -84,43 +82,6 @@ fn verdict<'a, 'p>(alloc: Global, program: &'p Program) -> Result<Verdict<'p>, R
     match search(alloc, program) {
         Ok(mut store) => judge_name(alloc, &mut store, program, CERT),
         Err(refusal) => Err(refusal),
-    }
-}
-
-/// The line of so many copies, and of what is shown of them.
-fn put_copies<O: Sink>(out: &mut O, copies: u32, outcome: &[u8]) -> Result<(), SinkFault>
-    ensures ok { Writes result (O.written out.old) (O.written out.new) (copies_line copies outcome.now) }
-    ensures err { Front result (O.written out.old) (O.written out.new) (copies_line copies outcome.now) }
-    ensures failed { IsErrOf result SinkFault.Failed → O.faults out.old < O.faults out.new }
-    ensures never_falls { O.faults out.old ≤ O.faults out.new }
-{
-    let types = 3 * u64::from(copies);
-    let functions = 5 * u64::from(copies) + 1;
-    put_line(
-        out,
-        &[
-            Piece::Text(b"gen "),
-            Piece::Natural(copies),
-            Piece::Text(b": "),
-            Piece::Count(types),
-            Piece::Text(b" types, "),
-            Piece::Count(functions),
-            Piece::Text(b" functions, "),
-            Piece::Text(outcome),
-            Piece::Text(b"\n"),
-        ],
-    )
-}
-
-/// Reports what is shown of so many copies, and gives this status; a write fault or want of memory replaces it.
-fn report_copies<O: Sink>(out: &mut O, copies: u32, outcome: &[u8], status: u8) -> u8
-    ensures { IsReportedLine (copies_line copies outcome.now) status
-        (wrote (O.faults out.old) (O.faults out.new) (O.written out.old) (O.written out.new)) result }
-{
-    match put_copies(out, copies, outcome) {
-        Ok(()) => status,
-        Err(SinkFault::Failed) => 7,
-        Err(SinkFault::OutOfMemory) => 8,
     }
 }
 

@@ -3,24 +3,24 @@
 ghost use Rattle.std.specs.Prelude.{◌≡◌, ◌≤◌, List, ℕ, Some};
 ghost use Rattle.vcc_base.specs.Maps.{Map};
 ghost use Rattle.vcc_words.specs.Words.{IsCheck, IsGen, IsUpgrade, IsVerify, texts};
+ghost use Rattle.vcc_io.specs.Faults.{read_counts};
+ghost use Rattle.vcc_io.specs.Lines.{wrote};
 ghost use Rattle.vcc_cli.specs.Accepts.{IsAcceptable, IsAccepted, IsCheckOf, LeavesAccepted, SourceIsSafe};
 ghost use Rattle.vcc_cli.specs.Generated.{ShowsCopies};
-ghost use Rattle.vcc_cli.specs.Lines.{wrote};
-ghost use Rattle.vcc_cli.specs.Run.{read_counts};
 ghost use Rattle.vcc_cli.specs.Searches.{stored};
 ghost use Rattle.vcc_cli.specs.Upgrades.{LeavesUpgrade};
 ghost use Rattle.vcc_cli.specs.Ends.{Ends, EndsWith, Generates, GetsYes, Keeps, Shows};
 
 use crate::check::check;
 use crate::copies::verify_copies;
-use crate::refusal::Refusal;
-use crate::report::report;
-use crate::run::run;
 use crate::upgrade::upgrade;
 use crate::verify::verify;
 use std::alloc::Global;
 use vcc_base::sink::Sink;
 use vcc_base::store::Store;
+use vcc_io::refusal::Refusal;
+use vcc_io::report::report;
+use vcc_io::run::run;
 use vcc_words::command::Command;
 use vcc_words::read_command;
 

@@ -1,35 +1,30 @@
 //! The command `upgrade`.
 
-ghost use Rattle.std.specs.Prelude.{◌≡◌, ◌<◌, ◌≤◌, IfErr, IfOk, IsErrOf, MatchBool, MatchResult, Some, length};
+ghost use Rattle.std.specs.Prelude.{◌≡◌, ◌<◌, ◌≤◌, IfErr, IfOk, MatchResult, Some, length};
 ghost use Rattle.cert_format.specs.Decoding.{seen};
 ghost use Rattle.conditions.specs.Conditions.{conditions as conditions_of};
-ghost use Rattle.schedule_replay.specs.Printing.{Front, Writes};
 ghost use Rattle.vcc_base.specs.Maps.{Map};
-ghost use Rattle.vcc_cli.specs.SecondVersions.{BeginsSecond, HoldsAnew, IsAnew, IsFirst, IsFirstText, IsNoFirstVersion};
-ghost use Rattle.vcc_cli.specs.Faults.{IsReadFault};
-ghost use Rattle.vcc_cli.specs.Lines.{IsReportedLine, wrote};
-ghost use Rattle.vcc_cli.specs.Run.{read_counts};
+ghost use Rattle.vcc_io.specs.Faults.{IsReadFault, read_counts};
+ghost use Rattle.vcc_io.specs.FirstVersions.{IsFirst};
+ghost use Rattle.vcc_io.specs.Lines.{wrote};
 ghost use Rattle.vcc_cli.specs.Searches.{stored};
-ghost use Rattle.vcc_cli.specs.Upgrades.{HoldsFirstVersion, IsFirstVersionStop, IsUnmade, IsUpgradeOfNames};
-ghost use Rattle.vcc_cli.specs.Upgrades.{IsUpgradeStopOf, IsWriteEnding, LeavesText, LeavesUpgrade, upgrade_line};
+ghost use Rattle.vcc_cli.specs.SecondVersions.{HoldsAnew, IsAnew};
+ghost use Rattle.vcc_cli.specs.Upgrades.{IsUnmade, IsUpgradeOfNames, IsUpgradeStopOf, IsWriteEnding, LeavesText, LeavesUpgrade};
 
-use crate::certificate::refusal_of;
-use crate::certificate_text::{certificate_text, fit_indices};
-use crate::labels::few_labels;
-use crate::program::{read, read_program};
-use crate::refusal::{BlockCount, LineFault, Refusal};
-use crate::report::report;
-use crate::verify::report_write_fault;
 use cert_format::certificate::Certificate;
-use cert_format::decode::decode;
 use method::program::Program;
-use schedule_replay::put::{Piece, put_line};
 use std::alloc::Global;
 use upgrade_laws::laws::{upgrade_is_certificate, upgrade_keeps};
 use vcc_base::limit::Limit;
-use vcc_base::sink::{Sink, SinkFault};
+use vcc_base::sink::Sink;
 use vcc_base::store::{Store, StoreFault};
 use vcc_base::whole::append_all;
+use vcc_io::certificate_text::{certificate_text, fit_indices};
+use vcc_io::first_version::read_first;
+use vcc_io::labels::few_labels;
+use vcc_io::program::read_program;
+use vcc_io::refusal::{BlockCount, Refusal};
+use vcc_io::report::{report, report_lemmas, report_write_fault};
 use vcc_upgrade::upgrade::{UpgradeFault, upgrade as upgrade_certificate};
 use vcc_words::command::Rewriting;
 
@@ -38,48 +33,6 @@ use vcc_words::command::Rewriting;
 pub struct Anew {
     pub text: Vec<u8>,
     pub lemmas: usize,
-}
-
-/// Whether the first line is that of version 2.
-fn is_second(bytes: &[u8]) -> bool
-    ensures { MatchBool result (BeginsSecond bytes.now) (BeginsSecond bytes.now → ⊥) }
-{
-    bytes.starts_with(b"vcc-cert 2\n")
-}
-
-/// The certificate of version 1 whose text the bytes are.
-fn first_version<'a>(alloc: Global, bytes: &[u8]) -> Result<Certificate, Refusal<'a>>
-    requires { length bytes.now ≤ 67108864 }
-    ensures text { IfOk result (λ certificate. IsFirstText bytes.now (seen certificate)) }
-    ensures refused { IfErr result (IsNoFirstVersion bytes.now) }
-{
-    if is_second(bytes) {
-        return Err(Refusal::BadCertificate(1, LineFault::BadLine));
-    }
-    match decode(alloc, bytes) {
-        Ok(certificate) => Ok(certificate),
-        Err(fault) => Err(refusal_of(fault)),
-    }
-}
-
-/// The certificate of version 1 with this name.
-fn read_first<'a, S: Store>(
-    alloc: Global,
-    store: &mut S,
-    name: &'a str,
-) -> Result<Certificate, Refusal<'a>>
-    ensures answer { (m : Map) → S.contents store.old ≡ Some m → MatchResult result
-        (λ certificate. HoldsFirstVersion m name.entry.now (seen certificate)) (IsFirstVersionStop m name.entry.now) }
-    ensures first { IfOk result (λ certificate. IsFirst (seen certificate)) }
-    ensures fault { IsReadFault result → S.read_faults store.old < S.read_faults store.new }
-    ensures never_falls { S.read_faults store.old ≤ S.read_faults store.new }
-    ensures writes_stay { S.write_faults store.new ≡ S.write_faults store.old }
-    ensures kept { S.contents store.new ≡ S.contents store.old }
-{
-    match read(alloc, store, name, Limit::CertBytes) {
-        Ok(bytes) => first_version(alloc, &bytes),
-        Err(refusal) => Err(refusal),
-    }
 }
 
 /// What the certificate of version 1 becomes for the program, or why it can't be written anew.
@@ -146,36 +99,6 @@ fn write_text<S: Store>(store: &mut S, name: &str, text: &[u8]) -> Result<(), St
     match store.create(name) {
         Ok(()) => append_all(store, name, text),
         Err(fault) => Err(fault),
-    }
-}
-
-/// The line of how many lemmas the new certificate has.
-fn put_lemmas<O: Sink>(out: &mut O, lemmas: usize) -> Result<(), SinkFault>
-    ensures ok { Writes result (O.written out.old) (O.written out.new) (upgrade_line lemmas) }
-    ensures err { Front result (O.written out.old) (O.written out.new) (upgrade_line lemmas) }
-    ensures failed { IsErrOf result SinkFault.Failed → O.faults out.old < O.faults out.new }
-    ensures never_falls { O.faults out.old ≤ O.faults out.new }
-{
-    put_line(
-        out,
-        &[
-            Piece::Text(b"upgraded: "),
-            Piece::Count(lemmas as u64),
-            Piece::Text(b" lemmas"),
-            Piece::Text(b"\n"),
-        ],
-    )
-}
-
-/// Reports how many lemmas the new certificate has, and gives the status.
-fn report_lemmas<O: Sink>(out: &mut O, lemmas: usize) -> u8
-    ensures { IsReportedLine (upgrade_line lemmas) 0
-        (wrote (O.faults out.old) (O.faults out.new) (O.written out.old) (O.written out.new)) result }
-{
-    match put_lemmas(out, lemmas) {
-        Ok(()) => 0,
-        Err(SinkFault::Failed) => 7,
-        Err(SinkFault::OutOfMemory) => 8,
     }
 }
 

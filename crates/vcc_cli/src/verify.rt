@@ -2,37 +2,24 @@
 
 ghost use Rattle.std.specs.Prelude.{◌≡◌, ◌≤◌, Some, Err};
 ghost use Rattle.vcc_base.specs.Maps.{Map};
+ghost use Rattle.vcc_io.specs.Faults.{read_counts};
+ghost use Rattle.vcc_io.specs.Lines.{wrote};
 ghost use Rattle.vcc_cli.specs.Accepts.{LeavesAccepted};
-ghost use Rattle.vcc_cli.specs.Lines.{IsReportedLine, wrote};
-ghost use Rattle.vcc_cli.specs.Run.{read_counts};
-ghost use Rattle.vcc_cli.specs.Searches.{IsEnding, IsVerifyOfNames, stored, write_fault_line};
+ghost use Rattle.vcc_cli.specs.Searches.{IsEnding, IsVerifyOfNames, stored};
 
-use crate::labels::few_labels;
-use crate::program::read_program;
-use crate::refusal::Refusal;
-use crate::report::{put_named, report};
 use ground_prover::proof::Budget;
 use std::alloc::Global;
 use typed_conditions::laws::{sources_are_annotated, sources_are_safe};
 use vcc_base::limit::Limit;
 use vcc_base::sink::{Sink, SinkFault};
 use vcc_base::store::{Store, StoreFault};
+use vcc_io::labels::few_labels;
+use vcc_io::program::read_program;
+use vcc_io::refusal::Refusal;
+use vcc_io::report::{report, report_write_fault};
 use vcc_verify::fault::VerifyFault;
 use vcc_verify::verify::verify as verify_program;
 use vcc_words::command::Search;
-
-/// Reports that the store didn't take a write to this name, and gives the status.
-pub(crate) fn report_write_fault<O: Sink>(out: &mut O, cert: &str) -> u8
-    ensures reported { IsReportedLine (write_fault_line cert.now) 7
-        (wrote (O.faults out.old) (O.faults out.new) (O.written out.old) (O.written out.new)) result }
-    ensures never_falls { O.faults out.old ≤ O.faults out.new }
-{
-    match put_named(out, b"write fault: ", cert) {
-        Ok(()) => 7,
-        Err(SinkFault::Failed) => 7,
-        Err(SinkFault::OutOfMemory) => 8,
-    }
-}
 
 /// Reports why a search came to no end, and gives the status; a sink that took no more gets nothing.
 fn report_fault<O: Sink>(out: &mut O, cert: &str, fault: VerifyFault) -> u8

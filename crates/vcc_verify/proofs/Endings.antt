@@ -23,9 +23,9 @@ use Rattle.vcc_judge.proofs.Lists.{map_long}
 use Rattle.schedule_replay.proofs.Left.{none_written}
 use Rattle.vcc_verify.specs.declared.fault.VerifyFault.{VerifyFault}
 use Rattle.vcc_verify.specs.declared.fault.VerifyFault.TheVariants as f
-use Rattle.vcc_verify.specs.Searches.{Finding, ItemsFind, each_has_blocks}
+use Rattle.vcc_search.specs.Searches.{Finding, ItemsFind, each_has_blocks}
 use Rattle.vcc_verify.specs.Texts.{blocks_of, certificate_of, certificate_text, head_text, blocks_text, end_text}
-use Rattle.vcc_verify.specs.Reports.{item_lines, text_of_lines, closing_line}
+use Rattle.vcc_search.specs.Reports.{item_lines, text_of_lines, closing_line}
 use Rattle.vcc_verify.specs.Outcomes.{LeavesFront, Leaves, Overflows, Prints, Verifies}
 use Rattle.vcc_verify.specs.Writing.{Cut, Begins}
 use Rattle.vcc_verify.specs.Runs.{ItemsRun, LinesCut}

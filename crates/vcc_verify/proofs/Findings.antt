@@ -15,9 +15,9 @@ use Rattle.cert_format.specs.Text.{IsDerivation, IsTerm, IsStep}
 use Rattle.cert_format.specs.declared.certificate.Owner.TheVariants.{OfCondition}
 use Rattle.refutation_check.specs.Follows.{Follows}
 use Rattle.vcc_judge.specs.Verdicts.{AllFollow, IsVerified}
-use Rattle.vcc_verify.specs.Searches.{Finding, Finds, AllFind, ItemsFind, all_have_blocks, each_has_blocks}
+use Rattle.vcc_search.specs.Searches.{Finding, Finds, AllFind, ItemsFind, all_have_blocks, each_has_blocks}
 use Rattle.vcc_verify.specs.Texts.{empty_block, block_of, blocks_of}
-use Rattle.vcc_verify.specs.Reports.{first_open, labels_in}
+use Rattle.vcc_search.specs.Reports.{first_open, labels_in}
 
 -- ---- nothing
 

@@ -1,6 +1,3 @@
-pub mod Parts
-pub mod Prover
-pub mod LineTexts
 pub mod Fronts
 pub mod Cuts
 pub mod Findings

@@ -20,12 +20,12 @@ use Rattle.vcc_judge.proofs.Lists.{drop_at, map_long}
 use Rattle.vcc_verify.specs.declared.fault.VerifyFault.{VerifyFault}
 use Rattle.vcc_verify.specs.declared.fault.VerifyFault.TheVariants as f
 use Rattle.vcc_verify.specs.declared.items.ItemEnd.{ItemEnd}
-use Rattle.vcc_verify.specs.Searches.{Finding, all_have_blocks, each_has_blocks}
+use Rattle.vcc_search.specs.Searches.{Finding, all_have_blocks, each_has_blocks}
 use Rattle.vcc_verify.specs.Texts.{block_of, blocks_of, blocks_text}
-use Rattle.vcc_verify.specs.Reports.{first_open, item_line, item_lines, labels_in, text_of_lines}
+use Rattle.vcc_search.specs.Reports.{first_open, item_line, item_lines, label_in, labels_in, text_of_lines}
 use Rattle.vcc_verify.specs.Outcomes.{SomeLines}
 use Rattle.vcc_verify.specs.Writing.{Stands}
-use Rattle.vcc_verify.specs.Runs.{label_in, ConditionsRun, ItemsRun, LinesAfter, LinesCut, at_start}
+use Rattle.vcc_verify.specs.Runs.{ConditionsRun, ItemsRun, LinesAfter, LinesCut, at_start}
 use Rattle.vcc_verify.proofs.Fronts.{held_as, front_all}
 use Rattle.vcc_verify.proofs.Cuts.{after_joined, cut_more}
 use Rattle.vcc_verify.proofs.Findings.{nothing_in, nothing_finds_in, find_long, labels_long, open_front}

@@ -14,11 +14,11 @@ use Rattle.vcc_judge.specs.Remaining.{Remain}
 use Rattle.vcc_verify.specs.declared.fault.VerifyFault.{VerifyFault}
 use Rattle.vcc_verify.specs.declared.fault.VerifyFault.TheVariants as f
 use Rattle.vcc_verify.specs.declared.items.ItemEnd.{ItemEnd}
-use Rattle.vcc_verify.specs.Searches.{Finding, Finds, AllFind}
+use Rattle.vcc_search.specs.Searches.{Finding, Finds, AllFind}
 use Rattle.vcc_verify.specs.Texts.{block_of, blocks_text}
-use Rattle.vcc_verify.specs.Reports.{first_open}
+use Rattle.vcc_search.specs.Reports.{first_open, label_in}
 use Rattle.vcc_verify.specs.Writing.{Stands, Cut}
-use Rattle.vcc_verify.specs.Runs.{label_in, first_after, first_or, IsEnd, ConditionsRun}
+use Rattle.vcc_verify.specs.Runs.{first_after, first_or, IsEnd, ConditionsRun}
 use Rattle.vcc_verify.proofs.Fronts.{held_as, front_none}
 use Rattle.vcc_verify.proofs.Cuts.{after_then, cut_more, one_text}
 use Rattle.vcc_verify.proofs.Findings.{nothing, nothing_finds, none_open}

@@ -10,9 +10,9 @@ use Rattle.vcc_base.specs.declared.store.StoreFault.TheVariants.{Missing, Failed
 use Rattle.vcc_judge.specs.Verdicts.{IsVerified}
 use Rattle.vcc_verify.specs.declared.fault.VerifyFault.{VerifyFault}
 use Rattle.vcc_verify.specs.declared.fault.VerifyFault.TheVariants as f
-use Rattle.vcc_verify.specs.Searches.{Finding, ItemsFind, each_has_blocks}
+use Rattle.vcc_search.specs.Searches.{Finding, ItemsFind, each_has_blocks}
 use Rattle.vcc_verify.specs.Texts.{certificate_of, certificate_text, blocks_of, blocks_text, head_text, end_text}
-use Rattle.vcc_verify.specs.Reports.{item_lines, text_of_lines, report}
+use Rattle.vcc_search.specs.Reports.{item_lines, text_of_lines, report}
 
 -- ---- the certificate
 

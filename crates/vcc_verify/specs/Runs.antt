@@ -6,23 +6,17 @@ use Rattle.method.specs.Labels as spec
 use Rattle.terms.specs.Formula.{Formula}
 use Rattle.term_meaning.specs.Meaning.{Language}
 use Rattle.check_labels.specs.declared.labels.ProgramLabel.{ProgramLabel}
-use Rattle.check_labels.specs.Labels.{label_of}
 use Rattle.vcc_base.specs.Limits.{number_of}
 use Rattle.vcc_base.specs.declared.limit.Limit.TheVariants.{CertBytes as Most}
 use Rattle.vcc_base.specs.Maps.{Map, NowWritten, FrontWritten}
 use Rattle.vcc_verify.specs.declared.fault.VerifyFault.{VerifyFault}
 use Rattle.vcc_verify.specs.declared.fault.VerifyFault.TheVariants as f
 use Rattle.vcc_verify.specs.declared.items.ItemEnd.{ItemEnd}
-use Rattle.vcc_verify.specs.Searches.{Finding, AllFind, ItemsFind, each_has_blocks}
+use Rattle.vcc_search.specs.Searches.{Finding, AllFind, ItemsFind, each_has_blocks}
 use Rattle.vcc_verify.specs.Texts.{block_of, blocks_of, blocks_text}
-use Rattle.vcc_verify.specs.Reports.{first_open, item_lines, text_of_lines}
+use Rattle.vcc_search.specs.Reports.{first_open, item_lines, label_in, text_of_lines}
 use Rattle.vcc_verify.specs.Outcomes.{SomeLines}
 use Rattle.vcc_verify.specs.Writing.{After}
-
--- the label that the code's is, where there is one
-abbrev pub label_in : Option ProgramLabel → Option spec.ProgramLabel
-label_in None = None
-label_in (Some l) = Some (label_of l)
 
 -- the first label, behind one finding more
 abbrev pub first_after : Option ProgramLabel → Finding → ProgramLabel → Option ProgramLabel

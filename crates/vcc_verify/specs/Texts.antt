@@ -2,7 +2,7 @@
 use Rattle.std.specs.Prelude.{ℕ, List, [], ◌++◌, map, flat_map, codes, decimal, Some, None}
 use Rattle.cert_format.specs.Derivations.{Derivation}
 use Rattle.cert_format.specs.Text.{Proofs, block_text, lines_of, text_of}
-use Rattle.vcc_verify.specs.Searches.{Finding}
+use Rattle.vcc_search.specs.Searches.{Finding}
 
 abbrev pub empty_block : Derivation
 empty_block = record { terms = []; steps = [] }

@@ -5,7 +5,7 @@ ghost use Rattle.vcc_base.specs.Maps.{Map};
 ghost use Rattle.cert_format.specs.Text.{block_text, literals_of};
 ghost use Rattle.vcc_verify.specs.Texts.{block_of, empty_block, head_text};
 ghost use Rattle.vcc_verify.specs.Writing.{After, Begins, Stands};
-ghost use Rattle.vcc_verify.specs.Searches.{HasFewLiterals};
+ghost use Rattle.vcc_search.specs.Searches.{HasFewLiterals};
 
 use crate::fault::VerifyFault;
 use cert_format::certificate::Refutation;

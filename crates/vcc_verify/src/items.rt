@@ -14,8 +14,6 @@ ghost use Rattle.vcc_verify.specs.Runs.{ConditionsRun, ItemsRun, at_start, first
 
 use crate::certificate::write_finding;
 use crate::fault::VerifyFault;
-use crate::lines::put_item;
-use crate::search::search;
 use block_layout::space::Theory;
 use cert_format::certificate::Refutation;
 use check_labels::labels::ProgramLabel;
@@ -26,6 +24,8 @@ use std::alloc::Global;
 use vcc_base::sink::{Sink, SinkFault};
 use vcc_base::store::{Store, StoreFault};
 use vcc_judge::sequence::ItemConditions;
+use vcc_search::lines::put_item;
+use vcc_search::search::search;
 
 /// What came of conditions of an item: how many there are, the label of the first without a block, and how many bytes
 /// the certificate has with their blocks.

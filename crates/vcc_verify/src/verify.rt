@@ -13,7 +13,6 @@ ghost use Rattle.vcc_verify.specs.Outcomes.{Verifies};
 use crate::certificate::{LAST_LINE, begin};
 use crate::fault::VerifyFault;
 use crate::items::write_items;
-use crate::lines::put_closing;
 use block_layout::space::Theory;
 use check_labels::labels::ProgramLabel;
 use ground_prover::proof::Budget;
@@ -23,6 +22,7 @@ use std::alloc::Global;
 use vcc_base::sink::{Sink, SinkFault};
 use vcc_base::store::{Store, StoreFault};
 use vcc_base::whole::append_all;
+use vcc_search::lines::put_closing;
 
 /// The same by the program's theory.
 fn verify_by<S: Store, O: Sink>(

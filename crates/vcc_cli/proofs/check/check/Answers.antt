@@ -1,6 +1,6 @@
 use Rattle.std.proofs.Common.{inl, inr, refl, ◌∙◌, arith}
+use Rattle.vcc_io.proofs.Statuses.{is_yes}
 use Rattle.vcc_cli.proofs.Checking.{holds_safe}
-use Rattle.vcc_cli.proofs.Verdicts.{is_yes}
 use Rattle.vcc_cli.proofs.check.check.Goals as goal
 
 pub returns-clause-checked : goal.returns-clause-checked

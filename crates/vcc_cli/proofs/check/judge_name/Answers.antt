@@ -1,8 +1,8 @@
 use Rattle.std.proofs.Common.{◌≡◌, ◌∙◌, refl, sym, length, arith}
 use Rattle.vcc_judge.proofs.Verified.{valid_of}
+use Rattle.vcc_io.proofs.Counting.{few_held, one_per_held}
+use Rattle.vcc_io.proofs.Sessions.{no_verdict, some_verdict}
 use Rattle.vcc_cli.proofs.Checking.{judged_answer, stops_at_blocks, stops_at_certificate}
-use Rattle.vcc_cli.proofs.Counting.{few_held, one_per_held}
-use Rattle.vcc_cli.proofs.Sessions.{no_verdict, some_verdict}
 use Rattle.vcc_cli.proofs.check.judge_name.Goals as goal
 
 pub try_certificate-requires-clause-theory : goal.try_certificate-requires-clause-theory

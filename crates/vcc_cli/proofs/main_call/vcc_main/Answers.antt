@@ -1,9 +1,9 @@
 use Rattle.std.proofs.Common.{inl, inr}
 use Rattle.vcc_words.specs.Words.{texts}
-use Rattle.vcc_cli.specs.declared.refusal.Refusal.TheVariants.{OutOfMemory, Usage}
+use Rattle.vcc_io.specs.declared.refusal.Refusal.TheVariants.{OutOfMemory, Usage}
+use Rattle.vcc_io.proofs.Statuses.{no_zero}
 use Rattle.vcc_cli.proofs.Commands.{accepted_command, complete_command, exact_command, generated_command, is_command, is_none, kept_command, safe_command, upgraded_command, verified_command, wanting_complete}
 use Rattle.vcc_cli.proofs.Generating.{refusal_shows}
-use Rattle.vcc_cli.proofs.Verdicts.{no_zero}
 use Rattle.vcc_cli.proofs.main_call.vcc_main.Goals as goal
 
 -- ---- a command

@@ -1,8 +1,8 @@
 use Rattle.std.proofs.Common.{◌≡◌, inl, inr, length, ◌∙◌, arith}
-use Rattle.vcc_cli.proofs.Counting.{few_held, one_per_held}
+use Rattle.vcc_io.proofs.Counting.{few_held, one_per_held}
+use Rattle.vcc_io.proofs.Statuses.{no_zero}
 use Rattle.vcc_cli.proofs.Searching.{no_read_fault}
 use Rattle.vcc_cli.proofs.Upgrading.{leaves_upgrade, rewritten}
-use Rattle.vcc_cli.proofs.Verdicts.{no_zero}
 use Rattle.vcc_cli.proofs.upgrade.upgrade.Goals as goal
 
 pub returns-in-Err-clause-upgrades : goal.returns-in-Err-clause-upgrades

@@ -1,7 +1,7 @@
 use Rattle.std.proofs.Common.{inl, inr, ◌∙◌}
+use Rattle.vcc_io.proofs.Statuses.{no_zero}
 use Rattle.vcc_cli.proofs.Checking.{holds_safe}
 use Rattle.vcc_cli.proofs.Searching.{leaves_accepted, no_read_fault, searched, yes_only}
-use Rattle.vcc_cli.proofs.Verdicts.{no_zero}
 use Rattle.vcc_cli.proofs.verify.verify.Goals as goal
 
 pub returns-in-Err-clause-verifies : goal.returns-in-Err-clause-verifies

@@ -1,0 +1,10 @@
+pub mod Counting
+pub mod Programs
+pub mod Counts
+pub mod Sessions
+pub mod Fronts
+pub mod CertificateTexts
+pub mod FirstVersions
+pub mod Replaying
+pub mod Printed
+pub mod Statuses

@@ -1,0 +1,9 @@
+pub mod Source
+pub mod Held
+pub mod Certificates
+pub mod FirstVersions
+pub mod CertificateTexts
+pub mod Pieces
+pub mod Faults
+pub mod Lines
+pub mod Replays
