@@ -1,4 +1,4 @@
-//! Tables for the readers of sources, of their pieces and layers, for the heights of trees and for the names that a program
+//! Tables for the readers of sources and of their pieces, for the heights of trees and for the names that a program
 //! declares, apart from them: a crate with tests is proved twice, and the drops of trees are proved in each crate that drops them.
 #![tactic(auto)]
 
@@ -6,8 +6,6 @@
 mod answers;
 #[cfg(test)]
 mod declarations;
-#[cfg(test)]
-mod layers;
 #[cfg(test)]
 mod pieces;
 #[cfg(test)]

@@ -1,17 +1,13 @@
-//! Sources, each with the terms of its conditions or its refusal. The expected texts were made by another program, written
+//! Sources, each with the terms of its conditions. The expected texts were made by another program, written
 //! from the grammar, the translation and the numbering of docs/LANGUAGE.md and docs/CONDITIONS.md alone; those of the two
 //! sources whose certificates stand in tests/commands.rows and tests/certificates.rows by hand.
 
-use crate::condition_lists::of_program;
+use crate::condition_lists::of_source;
 use crate::rows::is;
-use method::program::Program;
 use std::alloc::{AllocError, Global};
 use std::fmt::Write;
-use std::process::Abort;
 use term_graph::graph::Graph;
 use terms::term::Term;
-use vcc_io::program::typed_program;
-use vcc_io::refusal::Refusal;
 
 /// A source, and its conditions' terms from 0 on, with a bar between two conditions.
 const ROWS: &[(&str, &str)] = &[
@@ -144,11 +140,6 @@ const ROWS: &[(&str, &str)] = &[
         "void main(int x) _(requires x == 1) { if (x == 1) { _(assert x == 1) } _(assert x == 1) }",
         "Ch 0, Good 0, Int -2147483648, Ci 0, Le 2 3, Int 2147483647, Le 3 5, Int 1, Eq 3 7, And 8 8, And 6 9, And 4 10, And 1 11, Imp 12 8 | Ch 0, Good 0, Int -2147483648, Ci 0, Le 2 3, Int 2147483647, Le 3 5, Int 1, Eq 3 7, And 8 8, Not 8, Or 9 10, And 8 11, And 6 12, And 4 13, And 1 14, Imp 15 8",
     ),
-    ("void main(int if) {}", "unexpected"),
-    ("void main(int NULL) {}", "unexpected"),
-    ("void main(int x, int x) {}", "broken rule"),
-    ("void main(int x) { _(assert y == x) }", "broken rule"),
-    ("void main() { _(assert 01 == 1) }", "bad number"),
     ("void main()\t{}", ""),
     ("void main() { // nothing\n}", ""),
     (
@@ -189,9 +180,9 @@ fn show_condition(out: &mut String, terms: &Graph) -> Result<(), AllocError> {
     Ok(())
 }
 
-fn shown(alloc: Global, program: &Program) -> Result<String, AllocError> {
+fn shown(alloc: Global, source: &str) -> Result<String, AllocError> {
     let mut out = String::new(alloc);
-    for terms in &of_program(alloc, program)? {
+    for terms in &of_source(alloc, source)? {
         if !out.is_empty() {
             out.push_str(" | ")?;
         }
@@ -200,31 +191,10 @@ fn shown(alloc: Global, program: &Program) -> Result<String, AllocError> {
     Ok(out)
 }
 
-/// A word for each refusal of a source.
-fn refused(refusal: Refusal<'_>) -> &'static str {
-    match refusal {
-        Refusal::BadNumber(_) => "bad number",
-        Refusal::Unexpected(_) => "unexpected",
-        Refusal::BreaksRule(_) => "broken rule",
-        _ => "other",
-    }
-}
-
-/// A source has these conditions, or this refusal.
-fn gives(rt: &impl Abort, alloc: Global, source: &str, want: &str) {
-    assert!(rt; source.len() <= 1000);
-    match typed_program(alloc, source.as_bytes()) {
-        Ok(program) => {
-            let got = shown(alloc, &program).expect(rt, "memory for conditions");
-            is(rt, &(source, got.as_str()), &(source, want));
-        }
-        Err(refusal) => is(rt, &(source, refused(refusal)), &(source, want)),
-    }
-}
-
 #[test]
 fn conditions_of_sources(rt: HostRuntime) {
     for (source, want) in ROWS {
-        gives(&rt, rt.alloc(), source, want);
+        let got = shown(rt.alloc(), source).expect(&rt, "memory for conditions");
+        is(&rt, &(*source, got.as_str()), &(*source, *want));
     }
 }

@@ -1,5 +1,6 @@
 //! The labels of small sources. Each was worked out by hand, from the order in which an item's checks are evaluated.
 
+use crate::programs::program_of;
 use crate::rows::is;
 use check_labels::labels::{ProgramLabel, program_labels};
 use check_labels::names::item_name;
@@ -8,7 +9,6 @@ use std::alloc::{AllocError, Global};
 use std::fmt::Write;
 use std::process::Abort;
 use test_sources::ATOMIC;
-use vcc_io::program::typed_program;
 
 /// A source, and its labels in order.
 const ROWS: &[(&str, &str)] = &[
@@ -74,10 +74,9 @@ fn labels(alloc: Global, program: &Program) -> Result<String, AllocError> {
 
 /// The labels of the source are these.
 fn has_labels(rt: &impl Abort, alloc: Global, source: &str, want: &str) {
-    assert!(rt; source.len() <= 1000);
-    let text = match typed_program(alloc, source.as_bytes()) {
-        Ok(program) => labels(alloc, &program),
-        Err(_) => String::from_str(alloc, "no program"),
+    let text = match program_of(alloc, source) {
+        Some(program) => labels(alloc, &program),
+        None => String::from_str(alloc, "no program"),
     };
     let got = text.expect(rt, "memory for labels");
     is(rt, &(source, got.as_str()), &(source, want));

@@ -1,5 +1,6 @@
 //! The conditions of a source, and parts of them as texts.
 
+use crate::programs::program_of;
 use condition_code::emitter::Emitter;
 use condition_code::walk::Walk;
 use condition_walk::items::add_item_path;
@@ -10,7 +11,6 @@ use std::alloc::{AllocError, Global};
 use std::fmt::Write;
 use term_graph::graph::Graph;
 use terms::term::{Kind, Term};
-use vcc_io::program::typed_program;
 
 /// Adds the conditions of an item, each with its terms from 0 on.
 fn add_conditions(
@@ -35,7 +35,7 @@ fn add_conditions(
 }
 
 /// The conditions of a program.
-pub fn of_program(alloc: Global, program: &Program) -> Result<Vec<Graph>, AllocError> {
+fn of_program(alloc: Global, program: &Program) -> Result<Vec<Graph>, AllocError> {
     let mut conditions = Vec::new(alloc);
     for item in &program.items {
         add_conditions(alloc, program, *item, &mut conditions)?;
@@ -43,14 +43,11 @@ pub fn of_program(alloc: Global, program: &Program) -> Result<Vec<Graph>, AllocE
     Ok(conditions)
 }
 
-/// The conditions of a short source; none where it is refused.
+/// The conditions of a short source; none where it has no program.
 pub fn of_source(alloc: Global, source: &str) -> Result<Vec<Graph>, AllocError> {
-    if source.len() > 1000 {
-        return Err(AllocError);
-    }
-    match typed_program(alloc, source.as_bytes()) {
-        Ok(program) => of_program(alloc, &program),
-        Err(_) => Ok(Vec::new(alloc)),
+    match program_of(alloc, source) {
+        Some(program) => of_program(alloc, &program),
+        None => Ok(Vec::new(alloc)),
     }
 }
 
