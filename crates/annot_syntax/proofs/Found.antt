@@ -18,10 +18,11 @@ use Rattle.c_syntax.specs.Readable.{readable}
 use Rattle.c_source.specs.declared.fault.SourceFault.{SourceFault}
 use Rattle.c_source.specs.declared.fault.SourceFault.TheVariants as f
 use Rattle.reader_expressions.specs.Reading.{lexemes}
-use Rattle.c_reader.specs.Reading.{IsSyntax, IsUnexpected}
-use Rattle.annot_syntax.specs.declared.tree.Place.{Place}
-use Rattle.annot_syntax.specs.Annotations.{Annot, annotation, phrases, IsAnnotation, IsAnnotationFault, IsAnnotationFaultOrMemory, IsAnnotationOrMemory}
-use Rattle.annot_syntax.specs.Shapes.{least_of, shape_at}
+use Rattle.reader_program.specs.Faults.{IsSyntax, IsUnexpected}
+use Rattle.reader_pieces.specs.declared.tree.Place.{Place}
+use Rattle.reader_pieces.specs.Annotations.{Annot, annotation}
+use Rattle.reader_pieces.specs.Shapes.{least_of, shape_at}
+use Rattle.annot_syntax.specs.Annotations.{phrases, IsAnnotation, IsAnnotationFault, IsAnnotationFaultOrMemory, IsAnnotationOrMemory}
 use Rattle.annot_syntax.proofs.Fronts.{from_on, have_end, place_behind}
 use Rattle.annot_syntax.proofs.Standing.{Told}
 use Rattle.annot_syntax.proofs.Shapes.{place_told, place_one, place_moves, place_deep}

@@ -2,5 +2,3 @@ pub mod Fronts
 pub mod Standing
 pub mod Shapes
 pub mod Found
-pub mod Links
-pub mod Choices

@@ -21,11 +21,12 @@ use Rattle.c_syntax.specs.Lexing.{Lexeme}
 use Rattle.c_syntax.specs.Grammar.{N, P, R}
 use Rattle.c_syntax.specs.Language.{language}
 use Rattle.c_syntax.specs.Readable.{readable}
-use Rattle.annot_syntax.specs.declared.tree.Place.{Place}
-use Rattle.annot_syntax.specs.declared.tree.Place.TheVariants as places
+use Rattle.reader_pieces.specs.declared.tree.Place.{Place}
+use Rattle.reader_pieces.specs.declared.tree.Place.TheVariants as places
+use Rattle.reader_pieces.specs.Annotations.{Annot, Shape, flat, level, annotation}
+use Rattle.reader_pieces.specs.Shapes.{least_of, shape_at}
 use Rattle.annot_syntax.specs.Standing.{IsStop}
-use Rattle.annot_syntax.specs.Annotations.{Annot, Shape, flat, level, annotation, phrases}
-use Rattle.annot_syntax.specs.Shapes.{least_of, shape_at}
+use Rattle.annot_syntax.specs.Annotations.{phrases}
 use Rattle.annot_syntax.proofs.Standing.{IsOne, Told, told, begins}
 
 -- ---- loops of annotations end by themselves

@@ -8,16 +8,17 @@ ghost use Rattle.c_syntax.specs.declared.token.Sign.TheVariants as signs;
 ghost use Rattle.c_syntax.specs.Language.{language};
 ghost use Rattle.reader_expressions.specs.Reading.{lexemes};
 ghost use Rattle.annot_syntax.specs.Pieces as pieces;
-ghost use Rattle.annot_syntax.specs.Annotations.{view, IsAnnotation, IsAnnotationFaultOrMemory, IsOnlyAnnotation};
+ghost use Rattle.reader_pieces.specs.Annotations.{view};
+ghost use Rattle.annot_syntax.specs.Annotations.{IsAnnotation, IsAnnotationFaultOrMemory, IsOnlyAnnotation};
 
 use crate::expression::MOST_LEVELS;
-use crate::places::{annotation_of, least};
-use crate::tree::{Annotation, Place};
-use c_reader::faults::{first_place, unexpected};
 use c_source::fault::SourceFault;
 use c_syntax::token::{Sign, Token};
 use reader_expressions::reading::ReadFault;
 use reader_expressions::tokens::next_is;
+use reader_pieces::places::{annotation_of, least};
+use reader_pieces::tree::{Annotation, Place};
+use reader_program::faults::{first_place, unexpected};
 use std::alloc::Global;
 
 /// Whether a `_(` stands at this place.

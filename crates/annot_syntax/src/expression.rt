@@ -12,7 +12,6 @@ ghost use Rattle.reader_expressions.specs.Reading.{lexemes};
 ghost use Rattle.annot_syntax.specs.Pieces as spec;
 ghost use Rattle.annot_syntax.specs.Pieces.{IsExpression, IsFaultOrMemory, IsOnlyExpression};
 
-use c_reader::faults::first_place;
 use c_source::fault::SourceFault;
 use c_syntax::expressions::Expr;
 use c_syntax::token::Token;
@@ -20,6 +19,7 @@ use reader_assignments::calls::begins_code;
 use reader_expressions::expressions::expression;
 use reader_expressions::levels::{Mode, Tier};
 use reader_expressions::reading::ReadFault;
+use reader_program::faults::first_place;
 use std::alloc::Global;
 
 /// How high an item may be.

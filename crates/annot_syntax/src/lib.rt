@@ -3,11 +3,7 @@
 
 pub mod annotations;
 pub mod expression;
-pub mod forms;
-pub mod places;
-pub mod tree;
-pub mod words;
 
 pub use annotations::{is_annotation, read_annotation};
 pub use expression::read_expression;
-pub use tree::{Annotation, Place};
+pub use reader_pieces::tree::{Annotation, Place};

@@ -1,5 +1,1 @@
-pub mod ItemKinds
-pub mod Attributed
-pub mod Sequences
-pub mod Fronts
 pub mod Whole

@@ -1,28 +1,27 @@
 -- From what is read of tokens to what the bytes are.
-use Rattle.std.proofs.Common.{◌≡◌, ◌⊎◌, inl, inr, ℕ, suc, ◌*◌, ◌<◌, ◌≤◌, Bool, true, false, cond, List, [], length, map, Result, Ok, Err, refl, ap, ap₂, sym, ◌∙◌, subst, Vec, arith}
+use Rattle.std.proofs.Common.{◌≡◌, ℕ, ◌*◌, ◌<◌, ◌≤◌, Bool, true, false, cond, List, [], length, Result, Ok, Err, refl, ap, sym, ◌∙◌, subst, arith}
 use Rattle.std.specs.Prelude.{◌==◌, IfOk, IfErr}
-use Rattle.std.specs.declared.alloc.Global.{Global}
 use Rattle.c_syntax.specs.declared.token.Span.{Span}
-use Rattle.c_syntax.specs.declared.items.Item.{Item as ItemOf}
 use Rattle.c_syntax.specs.declared.items.Tree.{Tree}
 use Rattle.ebnf.specs.Derives.{next}
-use Rattle.ebnf.specs.Reading.{Out, Unexpected, TooDeep}
+use Rattle.ebnf.specs.Reading.{Out, Unexpected}
 use Rattle.ebnf.specs.Verdict.{at_end}
 use Rattle.c_syntax.specs.Lexing.{Lexeme, Lexes}
 use Rattle.c_syntax.specs.Items.{Item}
 use Rattle.c_syntax.specs.Language.{language}
-use Rattle.c_syntax.specs.Laws.{read_items, room}
+use Rattle.c_syntax.specs.Laws.{read_items}
 use Rattle.c_syntax.specs.Faults.{SyntaxFault, UnexpectedToken, UnknownForm, TooHigh, fault_of, front_of, first_token, named, read_source}
 use Rattle.c_syntax.specs.SourceLaws.{IsAnswer, read_is_answer}
-use Rattle.c_syntax.specs.Views.{item, items_of}
+use Rattle.c_syntax.specs.Views.{items_of}
 use Rattle.c_source.specs.declared.fault.SourceFault.{SourceFault}
 use Rattle.c_source.specs.declared.fault.SourceFault.TheVariants as f
-use Rattle.c_source.specs.Sources.{IsText, IsWithinLimits, HasSyntaxFault, IsFault, IsFaultOrMemory, IsTreeOrMemory, FailsOrMemory}
+use Rattle.c_source.specs.Sources.{IsText, IsWithinLimits, IsFault, IsFaultOrMemory, IsTreeOrMemory, FailsOrMemory}
 use Rattle.c_source.proofs.Ends.{has_end}
 use Rattle.c_source.proofs.Unique.{one_text, one_fault, not_both}
 use Rattle.tree_heights.specs.Parts.{parts}
 use Rattle.tree_heights.proofs.PartRows.{source_parts}
-use Rattle.c_reader.specs.Reading.{IsSyntax, IsUnexpected, IsRead}
+use Rattle.reader_program.specs.Faults.{IsSyntax, IsUnexpected}
+use Rattle.c_reader.specs.Reading.{IsRead}
 
 -- what is read up to the end
 pub ends_there : {A : Type 0} (out : Out language A) (a : A) (h : ℕ) (rest : List Lexeme) → out ≡ Ok (a, h, rest) → (next language rest == 0) ≡ true → at_end language out ≡ Ok (a, h, rest)

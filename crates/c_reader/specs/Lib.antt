@@ -1,3 +1,1 @@
-pub mod Rows
-pub mod Views
 pub mod Reading

@@ -7,23 +7,13 @@ use Rattle.ebnf.specs.Reading.{Out, Unexpected, TooDeep}
 use Rattle.c_syntax.specs.Lexing.{Lexeme}
 use Rattle.c_syntax.specs.Items.{Item}
 use Rattle.c_syntax.specs.Language.{language}
-use Rattle.c_syntax.specs.Faults.{SyntaxFault, UnexpectedToken, UnknownForm, TooHigh, fault_of, front_of, first_token}
+use Rattle.c_syntax.specs.Faults.{SyntaxFault, UnexpectedToken, UnknownForm, TooHigh}
 use Rattle.c_syntax.specs.Views.{item}
 use Rattle.reader_expressions.specs.declared.reading.ReadFault.{ReadFault}
 use Rattle.reader_expressions.specs.declared.reading.ReadFault.TheVariants as r
 use Rattle.reader_expressions.specs.Reading.{lexemes}
 use Rattle.c_source.specs.declared.fault.SourceFault.{SourceFault}
 use Rattle.c_source.specs.declared.fault.SourceFault.TheVariants as f
-
--- the fault of a syntax, at its place
-abbrev pub IsSyntax : SyntaxFault × Span → SourceFault → Type 0
-IsSyntax (UnexpectedToken, place) fault = fault ≡ f.Unexpected place
-IsSyntax (UnknownForm, place) fault = fault ≡ f.UnknownForm place
-IsSyntax (TooHigh, place) fault = fault ≡ f.TooDeep place
-
--- the fault of these tokens at the first of the rest, with which no item goes on
-abbrev pub IsUnexpected : List Lexeme → List Lexeme → SourceFault → Type 0
-IsUnexpected ts rest fault = IsSyntax (fault_of Unexpected (front_of ts rest) (first_token rest), (first_token rest).place) fault
 
 -- these items are what the grammar reads of a whole text, of any height, or this is its fault; of want of memory it says nothing
 abbrev pub GivesItems : Result (Vec ItemOf Global) ReadFault → Out language (List Item) → Type 0

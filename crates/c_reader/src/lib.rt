@@ -1,10 +1,6 @@
-//! The reader of whole sources.
+//! The reader of whole sources: from bytes to the tree, or to the first fault.
 #![tactic(auto)]
 
-pub mod faults;
-pub mod functions;
-pub mod items;
-pub mod program;
 pub mod source;
 
 pub use source::read_source;

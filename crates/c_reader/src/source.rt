@@ -13,13 +13,13 @@ ghost use Rattle.reader_expressions.specs.Reading.{lexemes};
 ghost use Rattle.tree_heights.specs.Parts.{parts};
 ghost use Rattle.c_reader.specs.Reading.{GivesItems, IsRead};
 
-use crate::faults::{first_place, last_place, next_is_end, unexpected};
-use crate::program::program;
 use c_source::fault::SourceFault;
 use c_syntax::fault::LexFault;
 use c_syntax::items::{Item, Tree};
 use c_syntax::token::Token;
 use reader_expressions::reading::ReadFault;
+use reader_program::faults::{first_place, last_place, next_is_end, unexpected};
+use reader_program::program::{program, tokens_behind};
 use std::alloc::Global;
 use vcc_lexer::tokens;
 
@@ -32,7 +32,7 @@ fn some_items<'a>(alloc: Global, tokens: &'a [Token<'a>]) -> Result<Vec<Item>, R
 {
     let found = program(alloc, ROOM, tokens)?;
     if !next_is_end(found.rest) {
-        return Err(ReadFault::Unexpected(found.rest));
+        return Err(ReadFault::Unexpected(tokens_behind(found)));
     }
     Ok(found.value)
 }

@@ -2,9 +2,10 @@ use Rattle.std.proofs.Common.{◌<◌, ◌≤◌, drop, Err, subst, arith}
 use Rattle.c_syntax.specs.Faults.{TooHigh}
 use Rattle.reader_expressions.specs.declared.reading.ReadFault.{ReadFault}
 use Rattle.reader_expressions.specs.Reading.{Gives, lexemes}
-use Rattle.annot_syntax.specs.Annotations.{view, annotation, IsAnnotationFault, IsAnnotationFaultOrMemory}
+use Rattle.reader_pieces.specs.Annotations.{view, annotation}
+use Rattle.reader_pieces.specs.Shapes.{least_of, shape_at}
+use Rattle.annot_syntax.specs.Annotations.{IsAnnotationFault, IsAnnotationFaultOrMemory}
 use Rattle.annot_syntax.specs.Pieces.{room_within}
-use Rattle.annot_syntax.specs.Shapes.{least_of, shape_at}
 use Rattle.annot_syntax.proofs.Found.{found_at, only_at, unexpected_at, deep_at, no_room_at, none_beside}
 use Rattle.annot_syntax.proofs.annotations.read_annotation.Goals as goal
 

@@ -1,11 +1,10 @@
-use Rattle.std.proofs.Common.{◌≡◌, ◌≤◌, ℕ, List, length, map, Ok, Err, subst, sym, ap, ◌∙◌}
+use Rattle.std.proofs.Common.{◌≡◌, ◌≤◌, ℕ, List, length, map, Ok, Err, subst, ap, ◌∙◌}
 use Rattle.std.proofs.lemmas.List.{length-map}
 use Rattle.c_syntax.specs.declared.token.Token.{Token}
-use Rattle.c_syntax.specs.declared.items.Tree.{Tree}
 use Rattle.c_syntax.specs.Tokens as t
 use Rattle.c_syntax.specs.Lexing.{lexeme, lexeme_at}
 use Rattle.c_syntax.specs.Faults.{read_source}
-use Rattle.c_syntax.specs.Views.{item, items_of}
+use Rattle.c_syntax.specs.Views.{item}
 use Rattle.c_source.specs.Sources.{IsFaultOrMemory}
 use Rattle.reader_expressions.specs.Reading.{lexemes}
 use Rattle.c_reader.specs.Reading.{IsRead}

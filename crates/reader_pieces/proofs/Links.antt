@@ -21,7 +21,7 @@ use Rattle.c_syntax.specs.Grammar.{P, R, ◌▷◌, GhostBody, word, list, attri
 use Rattle.reader_expressions.specs.Reading.{part, rule_at}
 use Rattle.reader_expressions.proofs.Primaries.{fits_one}
 use Rattle.reader_annotations.specs.Rows as rows
-use Rattle.annot_syntax.specs.Annotations.{Annot, Attributes, Assert, Ghost, Wrap, Unwrap, worded, assert_form, ghost_form, wrap_form, unwrap_form, marks, member, of_member}
+use Rattle.reader_pieces.specs.Annotations.{Annot, Attributes, Assert, Ghost, Wrap, Unwrap, worded, assert_form, ghost_form, wrap_form, unwrap_form, marks, member, of_member}
 
 -- something else made of what is read
 abbrev mapped : {A B : Type 0} → (B → A) → Out language B → Out language A

@@ -9,8 +9,8 @@ ghost use Rattle.c_syntax.specs.Grammar as g;
 ghost use Rattle.c_syntax.specs.Language.{language};
 ghost use Rattle.c_syntax.specs.Views.{id, ty, item as item_of};
 ghost use Rattle.reader_expressions.specs.Reading.{Gives, lexemes, part, rule_at};
-ghost use Rattle.c_reader.specs.Rows as rows;
-ghost use Rattle.c_reader.specs.Views as views;
+ghost use Rattle.reader_program.specs.Rows as rows;
+ghost use Rattle.reader_program.specs.Views as views;
 
 use crate::functions::{FunctionTail, function_at, function_tail};
 use c_syntax::expressions::{Identifier, ValueType};

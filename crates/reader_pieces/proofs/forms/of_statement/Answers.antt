@@ -2,10 +2,10 @@ use Rattle.std.proofs.Common.{ap}
 use Rattle.std.proofs.lemmas.Result.{err_from_is_err_and}
 use Rattle.reader_expressions.specs.Reading.{lexemes}
 use Rattle.reader_expressions.proofs.Outcomes.{high_gives}
-use Rattle.annot_syntax.specs.Annotations.{view}
-use Rattle.annot_syntax.specs.Shapes.{at_span}
-use Rattle.annot_syntax.proofs.Choices.{statement_high}
-use Rattle.annot_syntax.proofs.forms.of_statement.Goals as goal
+use Rattle.reader_pieces.specs.Annotations.{view}
+use Rattle.reader_pieces.specs.Shapes.{at_span}
+use Rattle.reader_pieces.proofs.Choices.{statement_high}
+use Rattle.reader_pieces.proofs.forms.of_statement.Goals as goal
 
 pub returns-in_err-fits-clause-gives : goal.returns-in_err-fits-clause-gives
 returns-in_err-fits-clause-gives c =

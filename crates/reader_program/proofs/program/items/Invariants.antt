@@ -2,8 +2,8 @@ use Rattle.std.proofs.Common.{◌≡◌, ◌≤◌, map, length}
 use Rattle.c_syntax.specs.Views.{item}
 use Rattle.reader_expressions.specs.Reading.{lexemes, part}
 use Rattle.reader_assignments.proofs.Repeats.{going}
-use Rattle.c_reader.specs.Rows as rows
-use Rattle.c_reader.proofs.program.items.Given as goal
+use Rattle.reader_program.specs.Rows as rows
+use Rattle.reader_program.proofs.program.items.Given as goal
 
 abbrev pub invariant-more : goal.invariant-more
 invariant-more l = record {

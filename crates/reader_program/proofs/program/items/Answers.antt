@@ -6,10 +6,10 @@ use Rattle.c_syntax.specs.Views.{item}
 use Rattle.reader_expressions.specs.Reading.{lexemes}
 use Rattle.reader_expressions.proofs.Outcomes.{first_err}
 use Rattle.reader_assignments.proofs.Repeats.{stop, goes, fails, shorter}
-use Rattle.c_reader.specs.Rows.{one_item}
-use Rattle.c_reader.proofs.ItemKinds.{fine_item, some_item}
-use Rattle.c_reader.proofs.Sequences.{whole, start}
-use Rattle.c_reader.proofs.program.items.Goals as goal
+use Rattle.reader_program.specs.Rows.{one_item}
+use Rattle.reader_program.proofs.ItemKinds.{fine_item, some_item}
+use Rattle.reader_program.proofs.Sequences.{whole, start}
+use Rattle.reader_program.proofs.program.items.Goals as goal
 
 pub returns-in_err-first-clause-gives : goal.returns-in_err-first-clause-gives
 returns-in_err-first-clause-gives c =

@@ -19,7 +19,7 @@ use Rattle.reader_expressions.proofs.Primaries.{fits_two}
 use Rattle.reader_assignments.proofs.Listed.{fits_zero}
 use Rattle.reader_assignments.proofs.Chosen.{none_of}
 use Rattle.reader_items.proofs.Choices.{or_false, left_read, right_read, rule_left, rule_left_deep, rule_right, rule_right_deep, rule_neither}
-use Rattle.c_reader.specs.Rows.{plain_struct, behind_struct_name, attributed_rule, struct_or_function, typed_function, one_item}
+use Rattle.reader_program.specs.Rows.{plain_struct, behind_struct_name, attributed_rule, struct_or_function, typed_function, one_item}
 
 module _ (room : ℕ) (ts : List Lexeme) where
   -- ---- behind `struct` and a name

@@ -7,7 +7,7 @@ ghost use Rattle.c_syntax.specs.Language.{language};
 ghost use Rattle.c_syntax.specs.Lexing.{Lexeme, lexeme, word_of};
 ghost use Rattle.c_syntax.specs.Faults as spec;
 ghost use Rattle.reader_expressions.specs.Reading.{lexemes};
-ghost use Rattle.c_reader.specs.Reading.{IsUnexpected};
+ghost use Rattle.reader_program.specs.Faults.{IsUnexpected};
 
 use c_source::fault::SourceFault;
 use c_syntax::token::{Keyword, Sign, Span, Token, TokenKind};

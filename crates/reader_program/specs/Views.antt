@@ -9,12 +9,12 @@ use Rattle.c_syntax.specs.Items.{Param, FunctionTree, Item}
 use Rattle.c_syntax.specs.Views.{id, parameter, clause}
 use Rattle.reader_statements.specs.Views.{braces}
 use Rattle.reader_items.specs.Views.{struct_tail}
-use Rattle.c_reader.specs.declared.functions.Contracted.{Contracted}
-use Rattle.c_reader.specs.declared.functions.FunctionTail.{FunctionTail}
-use Rattle.c_reader.specs.declared.items.PointerFunction.{PointerFunction}
-use Rattle.c_reader.specs.declared.items.StructWord.{StructWord}
-use Rattle.c_reader.specs.declared.items.StructWord.TheVariants as w
-use Rattle.c_reader.specs.declared.items.NamedStruct.{NamedStruct}
+use Rattle.reader_program.specs.declared.functions.Contracted.{Contracted}
+use Rattle.reader_program.specs.declared.functions.FunctionTail.{FunctionTail}
+use Rattle.reader_program.specs.declared.items.PointerFunction.{PointerFunction}
+use Rattle.reader_program.specs.declared.items.StructWord.{StructWord}
+use Rattle.reader_program.specs.declared.items.StructWord.TheVariants as w
+use Rattle.reader_program.specs.declared.items.NamedStruct.{NamedStruct}
 
 -- a contract and a body, as what they make of what stands in front
 abbrev pub contract_tail : Contracted → List Param → List Param → Span → Id → Span → Option Ty → FunctionTree

@@ -7,13 +7,12 @@ ghost use Rattle.c_syntax.specs.Classes.{sign};
 ghost use Rattle.c_syntax.specs.Language.{language};
 ghost use Rattle.c_syntax.specs.Views as views;
 ghost use Rattle.reader_expressions.specs.Reading.{Gives, lexemes, part, rule_at};
-ghost use Rattle.annot_syntax.specs.Annotations as spec;
-ghost use Rattle.annot_syntax.specs.Annotations.{view};
-ghost use Rattle.annot_syntax.specs.Shapes.{least_of, shape_at};
+ghost use Rattle.reader_pieces.specs.Annotations as spec;
+ghost use Rattle.reader_pieces.specs.Annotations.{view};
+ghost use Rattle.reader_pieces.specs.Shapes.{least_of, shape_at};
 
 use crate::forms::{of_ghost, of_loop, of_statement};
 use crate::tree::{Annotation, Place};
-use c_reader::faults::first_place;
 use c_syntax::items::{Member, Parameter};
 use c_syntax::token::{Keyword, Sign, Span, Token};
 use reader_annotations::brackets::close_bracket;
@@ -24,6 +23,7 @@ use reader_expressions::types::gtype;
 use reader_items::attributes::attribute_list;
 use reader_items::clauses::clause;
 use reader_items::members::member;
+use reader_program::faults::first_place;
 use std::alloc::Global;
 
 /// Attributes of a struct.

@@ -5,8 +5,8 @@ ghost use Rattle.std.specs.Option.{option_map};
 ghost use Rattle.c_syntax.specs.Grammar as g;
 ghost use Rattle.c_syntax.specs.Views.{id, ty, function as function_of};
 ghost use Rattle.reader_expressions.specs.Reading.{Gives, lexemes, part};
-ghost use Rattle.c_reader.specs.Rows as rows;
-ghost use Rattle.c_reader.specs.Views as views;
+ghost use Rattle.reader_program.specs.Rows as rows;
+ghost use Rattle.reader_program.specs.Views as views;
 
 use c_syntax::expressions::{Identifier, ValueType};
 use c_syntax::items::{Clause, Function, Parameter};

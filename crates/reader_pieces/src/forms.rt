@@ -2,9 +2,9 @@
 
 ghost use Rattle.std.specs.Prelude.{◌≡◌, ◌≤◌, ◌<◌, IfOk};
 ghost use Rattle.reader_expressions.specs.Reading.{Gives, lexemes, part};
-ghost use Rattle.annot_syntax.specs.Annotations as spec;
-ghost use Rattle.annot_syntax.specs.Annotations.{view};
-ghost use Rattle.annot_syntax.specs.Shapes.{at_span, form_of};
+ghost use Rattle.reader_pieces.specs.Annotations as spec;
+ghost use Rattle.reader_pieces.specs.Annotations.{view};
+ghost use Rattle.reader_pieces.specs.Shapes.{at_span, form_of};
 
 use crate::tree::Annotation;
 use crate::words::{Form, form_at};

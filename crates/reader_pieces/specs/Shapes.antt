@@ -9,9 +9,9 @@ use Rattle.c_syntax.specs.declared.token.Span.{Span}
 use Rattle.c_syntax.specs.Grammar.{P}
 use Rattle.c_syntax.specs.declared.token.Keyword.TheVariants as k
 use Rattle.c_syntax.specs.Classes.{key}
-use Rattle.annot_syntax.specs.declared.words.Form.{Form}
-use Rattle.annot_syntax.specs.declared.words.Form.TheVariants as forms
-use Rattle.annot_syntax.specs.Annotations.{Annot, Shape, flat, level, assert_form, ghost_form, wrap_form, unwrap_form, unwrapping_form, atomic_form}
+use Rattle.reader_pieces.specs.declared.words.Form.{Form}
+use Rattle.reader_pieces.specs.declared.words.Form.TheVariants as forms
+use Rattle.reader_pieces.specs.Annotations.{Annot, Shape, flat, level, assert_form, ghost_form, wrap_form, unwrap_form, unwrapping_form, atomic_form}
 
 -- the least height
 abbrev pub least_of : Shape → ℕ

@@ -1,13 +1,13 @@
 //! Whole programs.
 
-ghost use Rattle.std.specs.Prelude.{◌≤◌, ◌<◌, ◌+◌, map, IfOk};
+ghost use Rattle.std.specs.Prelude.{◌≡◌, ◌≤◌, ◌<◌, ◌+◌, map, IfOk};
 ghost use Rattle.ebnf.specs.Reading.{reads};
 ghost use Rattle.c_syntax.specs.Grammar as g;
 ghost use Rattle.c_syntax.specs.Language.{language};
 ghost use Rattle.c_syntax.specs.Views.{item as item_of};
 ghost use Rattle.reader_expressions.specs.Reading.{Gives, lexemes, part, rule_at, entered, extended};
 ghost use Rattle.reader_items.specs.Rows.{alone};
-ghost use Rattle.c_reader.specs.Rows as rows;
+ghost use Rattle.reader_program.specs.Rows as rows;
 
 use crate::items::{begins_item, item};
 use c_syntax::items::Item;
@@ -93,4 +93,11 @@ pub fn program<'a>(alloc: Global, room: u32, tokens: &'a [Token<'a>]) -> Reading
         return Err(ReadFault::TooDeep(tokens));
     }
     program_rule(alloc, room - 1, tokens)
+}
+
+/// The tokens behind a program, which is let go: trees are dropped here alone, so that no crate above proves their drops.
+pub fn tokens_behind<'a>(found: Parsed<'a, Vec<Item>>) -> &'a [Token<'a>]
+    ensures { result.now ≡ found.entry.rest.now }
+{
+    found.rest
 }

@@ -14,7 +14,7 @@ use Rattle.c_syntax.specs.Grammar.{P, ◌▷◌, word, name, concat}
 use Rattle.reader_expressions.specs.Reading.{part}
 use Rattle.reader_assignments.proofs.Parts.{row_read}
 use Rattle.reader_items.specs.Rows.{attributes}
-use Rattle.c_reader.specs.Rows.{named_struct, listed_struct, attributed, attributes_and_struct}
+use Rattle.reader_program.specs.Rows.{named_struct, listed_struct, attributed, attributes_and_struct}
 
 -- a value with what is read behind it
 abbrev applied : {A B : Type 0} → Out language (A → B) → A → ℕ → Out language B

@@ -6,8 +6,8 @@ ghost use Rattle.c_syntax.specs.Classes as classes;
 ghost use Rattle.c_syntax.specs.Language.{language};
 ghost use Rattle.c_syntax.specs.Lexing.{lexeme};
 ghost use Rattle.reader_expressions.specs.Reading.{lexemes};
-ghost use Rattle.annot_syntax.specs.declared.words.Form.{Form};
-ghost use Rattle.annot_syntax.specs.Shapes.{form_class};
+ghost use Rattle.reader_pieces.specs.declared.words.Form.{Form};
+ghost use Rattle.reader_pieces.specs.Shapes.{form_class};
 
 use c_syntax::token::{Keyword, Token, TokenKind};
 

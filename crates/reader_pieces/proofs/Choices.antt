@@ -9,15 +9,15 @@ use Rattle.c_syntax.specs.Classes.{key}
 use Rattle.c_syntax.specs.Lexing.{Lexeme}
 use Rattle.c_syntax.specs.Language.{language}
 use Rattle.reader_expressions.specs.Reading.{part}
-use Rattle.annot_syntax.specs.declared.words.Form.{Form}
-use Rattle.annot_syntax.specs.declared.words.Form.TheVariants as forms
+use Rattle.reader_pieces.specs.declared.words.Form.{Form}
+use Rattle.reader_pieces.specs.declared.words.Form.TheVariants as forms
 use Rattle.c_syntax.specs.declared.token.Span.{Span}
 use Rattle.ebnf.specs.Rules.{by_next}
 use Rattle.c_syntax.specs.Grammar.{P}
 use Rattle.reader_assignments.proofs.Chosen.{none_of}
 use Rattle.reader_items.proofs.Choices.{or_false, right_read, right_deep, neither_read, both_deep}
-use Rattle.annot_syntax.specs.Annotations.{Annot, of_statement, of_loop, of_ghost, invariant_form, assert_form, ghost_form, wrap_form, unwrap_form, unwrapping_form, atomic_form}
-use Rattle.annot_syntax.specs.Shapes.{form_of, form_class}
+use Rattle.reader_pieces.specs.Annotations.{Annot, of_statement, of_loop, of_ghost, invariant_form, assert_form, ghost_form, wrap_form, unwrap_form, unwrapping_form, atomic_form}
+use Rattle.reader_pieces.specs.Shapes.{form_of, form_class}
 
 -- ---- words
 

@@ -1,0 +1,4 @@
+pub mod ItemKinds
+pub mod Attributed
+pub mod Sequences
+pub mod Fronts
