@@ -27,7 +27,7 @@ fn is_entry(shape: u32, values: &[Value], other: &Entry) -> bool
 }
 
 /// Whether the claim was made with a conjunct of this shape and these values.
-#[tactic(auto, using(spec_eval::proofs::Members::some_found, spec_eval::proofs::Members::some_next, spec_eval::proofs::Members::some_nowhere))]
+#[tactic(auto, using(spec_values::proofs::Members::some_found, spec_values::proofs::Members::some_next, spec_values::proofs::Members::some_nowhere))]
 pub fn claims_shape(h: &Heap, c: Ref, shape: u32, values: &[Value]) -> bool
     ensures { result ≡ has_entry (entry shape values.now) (look_up h.now c).shapes }
 {

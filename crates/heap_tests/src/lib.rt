@@ -1,5 +1,5 @@
 //! Tests of heaps, of what threads own and what steps leave, and of the values of annotations, apart from the crates that they
-//! test: a crate with tests is proved twice.
+//! test: a crate with tests is proved twice. What the definitions say of more heaps are rows by computation (`value_rows`).
 #![tactic(auto)]
 
 #[cfg(test)]
@@ -9,12 +9,6 @@ mod evaluation;
 #[cfg(test)]
 mod heaps;
 #[cfg(test)]
-mod holding;
-#[cfg(test)]
-mod notation;
-#[cfg(test)]
 mod owning;
 #[cfg(test)]
 mod programs;
-#[cfg(test)]
-mod touching;

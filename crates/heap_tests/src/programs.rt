@@ -1,89 +1,75 @@
-//! Programs with a few structs, fields and shapes.
+//! A program of two structs, of which one has an invariant, and of one shape.
 
-use crate::notation::{Unread, read};
+use int_ranges::ctype::CType;
 use method::program::{DeclaredType, FieldInfo, Program, Shape, Sort, Spec, StructInfo};
 use std::alloc::{AllocError, Global};
 
-/// A struct's name, whether its owned set is dynamic and volatile, how many fields it has, and its invariants.
-pub type StructRow<'a> = (&'a str, bool, bool, u32, &'a [&'a str]);
+/// The field that is approved.
+pub const APPROVED: u32 = 7;
 
-/// The sorts of a shape's holes, and its conjunct, where x is the first hole and p the second.
-pub type ShapeRow<'a> = (&'a [Sort], &'a str);
+/// `o->f`, where f is field 0.
+fn field_of(alloc: Global, o: Spec) -> Result<Spec, AllocError> {
+    let o = Box::new(alloc, o)?;
+    Ok(Spec::Field(o, 0))
+}
 
-fn invariants_of(alloc: Global, texts: &[&str]) -> Result<Vec<Spec>, Unread> {
+fn struct_of(alloc: Global, has_volatile_owns: bool, invariants: Vec<Spec>) -> StructInfo {
+    StructInfo {
+        name: Vec::new(alloc),
+        line: 1,
+        is_claimable: true,
+        has_dynamic_owns: true,
+        has_volatile_owns,
+        first_field: 0,
+        fields: 8,
+        invariants,
+        has_approval: false,
+        mine: Vec::new(alloc),
+    }
+}
+
+/// Type 3, whose invariant is `\this->f`, and type 4, whose owned set is volatile.
+fn structs(alloc: Global) -> Result<Vec<StructInfo>, AllocError> {
+    let mut invariants = Vec::new(alloc);
+    invariants.push(field_of(alloc, Spec::This)?)?;
     let mut all = Vec::new(alloc);
-    for text in texts {
-        let e = read(alloc, *text)?;
-        all.push(Box::into_inner(e))?;
+    all.push(struct_of(alloc, false, invariants))?;
+    all.push(struct_of(alloc, true, Vec::new(alloc)))?;
+    Ok(all)
+}
+
+fn fields(alloc: Global) -> Result<Vec<FieldInfo>, AllocError> {
+    let mut all = Vec::new(alloc);
+    for number in 0..8 {
+        all.push(FieldInfo {
+            name: Vec::new(alloc),
+            of: 3,
+            ty: DeclaredType::Integer(CType::LongLong),
+            is_volatile: true,
+            is_ghost: false,
+            is_approved: number == APPROVED,
+        })?;
     }
     Ok(all)
 }
 
-fn struct_of(alloc: Global, row: &StructRow<'_>) -> Result<StructInfo, Unread> {
-    let (name, has_dynamic_owns, has_volatile_owns, fields, invariants) = *row;
-    let name = Vec::from_slice(alloc, name.as_bytes())?;
-    let invariants = invariants_of(alloc, invariants)?;
-    Ok(StructInfo {
-        name,
-        line: 1,
-        is_claimable: true,
-        has_dynamic_owns,
-        has_volatile_owns,
-        first_field: 0,
-        fields,
-        invariants,
-        has_approval: false,
-        mine: Vec::new(alloc),
-    })
-}
-
-fn shape_of(alloc: Global, row: &ShapeRow<'_>) -> Result<Shape, Unread> {
-    let (holes, text) = *row;
-    let holes = Vec::from_slice(alloc, holes)?;
-    let conjunct = read(alloc, text)?;
-    Ok(Shape {
-        holes,
-        conjunct: Box::into_inner(conjunct),
-    })
-}
-
-fn field_of(alloc: Global, name: &str, ty: DeclaredType) -> Result<FieldInfo, AllocError> {
-    let name = Vec::from_slice(alloc, name.as_bytes())?;
-    Ok(FieldInfo {
-        name,
-        of: 3,
-        ty,
-        is_volatile: false,
-        is_ghost: false,
-        is_approved: false,
-    })
-}
-
-/// A program with structs from type 3 on, fields of the first, and shapes.
-pub fn program(
-    alloc: Global,
-    structs: &[StructRow<'_>],
-    fields: &[(&str, DeclaredType)],
-    shapes: &[ShapeRow<'_>],
-) -> Result<Program, Unread> {
+/// The shape `x->f`, where x is a hole.
+fn shapes(alloc: Global) -> Result<Vec<Shape>, AllocError> {
+    let holes = Vec::from_slice(alloc, &[Sort::RefSort])?;
+    let conjunct = field_of(alloc, Spec::Variable(0))?;
     let mut all = Vec::new(alloc);
-    for row in structs {
-        all.push(struct_of(alloc, row)?)?;
-    }
-    let mut infos = Vec::new(alloc);
-    for (name, ty) in fields {
-        infos.push(field_of(alloc, *name, *ty)?)?;
-    }
-    let mut conjuncts = Vec::new(alloc);
-    for row in shapes {
-        conjuncts.push(shape_of(alloc, row)?)?;
-    }
+    all.push(Shape { holes, conjunct })?;
+    Ok(all)
+}
+
+/// The program.
+pub fn program(alloc: Global) -> Result<Program, AllocError> {
     Ok(Program {
-        structs: all,
-        fields: infos,
+        structs: structs(alloc)?,
+        fields: fields(alloc)?,
         functions: Vec::new(alloc),
         sites: Vec::new(alloc),
-        shapes: conjuncts,
+        shapes: shapes(alloc)?,
         items: Vec::new(alloc),
         main: 0,
     })

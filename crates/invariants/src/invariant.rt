@@ -32,7 +32,7 @@ fn struct_of(program: &Program, ty: u32) -> Option<&StructInfo>
 }
 
 /// Whether the invariants of the object's type hold, up to one that doesn't.
-#[tactic(auto, using(spec_eval::proofs::Deciding::held_err, spec_eval::proofs::Deciding::held_false, spec_eval::proofs::Deciding::held_stops, spec_eval::proofs::Deciding::held_next, spec_eval::proofs::Deciding::held_end, spec_eval::proofs::Deciding::held_fits))]
+#[tactic(auto, using(spec_values::proofs::Deciding::held_err, spec_values::proofs::Deciding::held_false, spec_values::proofs::Deciding::held_stops, spec_values::proofs::Deciding::held_next, spec_values::proofs::Deciding::held_end, spec_values::proofs::Deciding::held_fits))]
 fn struct_holds(
     program: &Program,
     info: &StructInfo,

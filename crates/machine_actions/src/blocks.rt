@@ -22,7 +22,7 @@ use method::program::{CheckKind, Inner, Listed};
 use object_types::heap::Heap;
 use object_types::references::Ref;
 use object_types::values::Value;
-use spec_eval::status::is_closed;
+use spec_values::status::is_closed;
 use std::alloc::{AllocError, Global};
 
 /// The place of a statement of this line inside an atomic block; `at` is the block's, with the objects that it lists.

@@ -10,7 +10,7 @@ use Rattle.method.specs.SpecValue.{Scene, value}
 use Rattle.method.specs.Overflow.{Overflow, or_else, overflow}
 use Rattle.method.specs.Expressions.{Gives, Tested, weighed}
 use Rattle.method.specs.Actions.{items_of, items_overflow}
-use Rattle.spec_eval.specs.Answers.{operands}
+use Rattle.spec_values.specs.Answers.{operands}
 use Rattle.machine_values.specs.declared.stop.Stop.{Stop}
 use Rattle.machine_values.specs.declared.stop.Stop.TheVariants.{Misfit, Fault, Wide, Exhausted, OutOfMemory}
 use Rattle.machine_values.specs.Answers.{Stops, Worked, Tests}

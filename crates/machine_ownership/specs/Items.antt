@@ -9,7 +9,7 @@ use Rattle.method.specs.SpecValue.{Scene}
 use Rattle.method.specs.Overflow.{Overflow}
 use Rattle.method.specs.Expressions.{Spot}
 use Rattle.method.specs.Actions.{items_of, items_overflow, wrapped_set, set_overflow}
-use Rattle.spec_eval.specs.Answers.{operands}
+use Rattle.spec_values.specs.Answers.{operands}
 use Rattle.machine_values.specs.declared.stop.Stop.{Stop}
 use Rattle.machine_values.specs.declared.stop.Stop.TheVariants.{Misfit, Fault, Wide, Exhausted, OutOfMemory}
 

@@ -7,7 +7,7 @@ use Rattle.object_types.specs.declared.values.Value.TheVariants.{Int}
 use Rattle.method.specs.declared.program.CheckKind.{CheckKind}
 use Rattle.method.specs.Overflow.{Overflow}
 use Rattle.method.specs.Expressions.{Outcome, Unfit, Fault, Gives, Tested}
-use Rattle.spec_eval.specs.Answers.{operands}
+use Rattle.spec_values.specs.Answers.{operands}
 use Rattle.spec_eval.specs.declared.env.EvalFault.{EvalFault}
 use Rattle.spec_eval.specs.declared.env.EvalFault.TheVariants.{Wide as WideValue, OutOfMemory as NoMemory}
 use Rattle.machine_values.specs.declared.stop.Stop.{Stop}

@@ -10,7 +10,7 @@ use int_ranges::ctype::CType;
 use method::program::{DeclaredType, Program, StructInfo};
 use object_types::references::{NULL, Ref};
 use object_types::values::Value;
-pub use spec_eval::status::{read, type_of_field, zero_of};
+pub use spec_values::status::{read, type_of_field, zero_of};
 
 /// The type number of claims.
 pub const CLAIMS: u32 = 2;

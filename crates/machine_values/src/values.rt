@@ -1,5 +1,5 @@
 //! Values as references, numbers and truth values.
 
-pub use spec_eval::arithmetic::compare;
-pub use spec_eval::status::contains;
-pub use spec_eval::values::{is_true, local, number, referent, says};
+pub use spec_values::arithmetic::compare;
+pub use spec_values::status::contains;
+pub use spec_values::values::{is_true, local, number, referent, says};

@@ -2,7 +2,7 @@
 use Rattle.std.specs.Prelude.{◌≡◌, None, Some, Result, Ok, Err}
 use Rattle.method.specs.declared.program.Program.{Program}
 use Rattle.method.specs.Machine as m
-use Rattle.spec_eval.specs.Answers.{operands}
+use Rattle.spec_values.specs.Answers.{operands}
 use Rattle.ref_machine.specs.declared.state.State.{State}
 use Rattle.ref_machine.specs.declared.step.Stepped.{Stepped}
 use Rattle.ref_machine.specs.declared.step.Stepped.TheVariants.{Next, Fault, NotEnabled, Wide}

@@ -14,7 +14,7 @@ use Rattle.method.specs.SpecValue.{Scene, holds}
 use Rattle.method.specs.Overflow.{overflow}
 use Rattle.method.specs.Expressions as x
 use Rattle.method.specs.Machine as m
-use Rattle.spec_eval.specs.Answers.{operands}
+use Rattle.spec_values.specs.Answers.{operands}
 use Rattle.machine_values.specs.declared.stop.Stop.{Stop}
 use Rattle.machine_values.specs.declared.stop.Stop.TheVariants as stop
 use Rattle.machine_values.specs.Answers.{Verdict, Passes, one_verdict}

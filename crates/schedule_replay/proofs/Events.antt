@@ -7,7 +7,7 @@ use Rattle.vcc_base.specs.Maps.{NowWritten, FrontWritten}
 use Rattle.vcc_base.specs.declared.sink.SinkFault.{SinkFault}
 use Rattle.object_types.specs.Lookups.{heap_of}
 use Rattle.int_ranges.specs.declared.exact.Wide.{Wide}
-use Rattle.spec_eval.specs.Answers.{operands}
+use Rattle.spec_values.specs.Answers.{operands}
 use Rattle.method.specs.declared.program.CheckKind.{CheckKind}
 use Rattle.method.specs.declared.program.Program.{Program}
 use Rattle.method.specs.Machine as m

@@ -2,7 +2,7 @@
 use Rattle.std.proofs.Common.{◌≡◌, ℕ, List, [], Option, Some, Result, Ok, Err, false, refl, sym, ap, subst, ◌∙◌, Bool}
 use Rattle.vcc_base.specs.Maps.{NowWritten, FrontWritten}
 use Rattle.int_ranges.specs.declared.exact.Wide.{Wide}
-use Rattle.spec_eval.specs.Answers.{operands}
+use Rattle.spec_values.specs.Answers.{operands}
 use Rattle.object_types.specs.Heap.{empty_heap}
 use Rattle.method.specs.declared.program.CheckKind.TheVariants.{Requires}
 use Rattle.method.specs.declared.program.Program.{Program}

@@ -1,21 +1,11 @@
--- What working out an expression answers. Own.
-use Rattle.std.specs.Prelude.{◌≡◌, Option, Some, None, Result, Ok, Err}
-use Rattle.int_ranges.specs.declared.exact.Wide.{Wide}
+-- Why an annotation's expression has no value. Own.
+use Rattle.std.specs.Prelude.{◌≡◌, Option, Some}
 use Rattle.method.specs.Overflow.{Overflow}
+use Rattle.spec_values.specs.Answers.{operands}
 use Rattle.spec_eval.specs.declared.env.EvalFault.{EvalFault}
-use Rattle.spec_eval.specs.declared.env.EvalFault.TheVariants.{OutOfMemory}
-use Rattle.spec_eval.specs.declared.env.EvalFault.TheVariants.{Wide as WideAt}
+use Rattle.spec_eval.specs.declared.env.EvalFault.TheVariants.{Wide, OutOfMemory}
 
--- the operands of a result that leaves 128 bits
-abbrev pub operands : Wide → Overflow
-operands w = record { left = w.a; right = w.b }
-
--- the value where no exact result on the way leaves 128 bits, and else the operands of the first that does
-abbrev pub Gives : {X : Type 0} → Result X Wide → X → Option Overflow → Type 0
-Gives (Ok v) value first = (v ≡ value) × (first ≡ None)
-Gives (Err w) value first = first ≡ Some (operands w)
-
--- the fault is that first result; memory is never wanted
+-- the fault is the first exact result that leaves 128 bits; memory is never wanted
 abbrev pub IsWideAt : EvalFault → Option Overflow → Type 0
-IsWideAt (WideAt w) first = first ≡ Some (operands w)
+IsWideAt (Wide w) first = first ≡ Some (operands w)
 IsWideAt OutOfMemory first = ⊥

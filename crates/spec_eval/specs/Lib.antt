@@ -1,3 +1,2 @@
 pub mod Scenes
 pub mod Answers
-pub mod Quantified

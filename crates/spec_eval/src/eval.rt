@@ -9,14 +9,14 @@ ghost use Rattle.spec_eval.specs.Scenes.{scene_of};
 ghost use Rattle.spec_eval.specs.Answers.{IsWideAt};
 
 use crate::env::{Env, EvalFault};
-use crate::expression::work_out;
-use crate::place::Place;
-use crate::values::is_true;
+use crate::places::{in_claim, in_function, in_invariant};
 use method::program::{Program, Spec};
 use object_types::heap::Heap;
 use object_types::references::Ref;
 use object_types::shapes::Entry;
 use object_types::values::Value;
+use spec_values::expression::work_out;
+use spec_values::values::is_true;
 
 /// The value of an expression of a function's annotation.
 ///
@@ -33,7 +33,7 @@ pub fn eval(
     ensures fits { let s = scene_of env.now (heap_of before.now) (heap_of after.now) in OnOk result (overflow program.now e.now s ≡ None) }
     ensures wide { let s = scene_of env.now (heap_of before.now) (heap_of after.now) in IfErr result (λ f. IsWideAt f (overflow program.now e.now s)) }
 {
-    let at = Place::in_function(program, before, after, env);
+    let at = in_function(program, before, after, env);
     work_out(&at, e).map_err(EvalFault::Wide)
 }
 
@@ -71,7 +71,7 @@ pub fn holds_of(
     ensures fits { let s = inv_scene o (heap_of before.now) (heap_of after.now) in OnOk result (overflow program.now e.now s ≡ None) }
     ensures wide { let s = inv_scene o (heap_of before.now) (heap_of after.now) in IfErr result (λ f. IsWideAt f (overflow program.now e.now s)) }
 {
-    let at = Place::in_invariant(program, before, after, o);
+    let at = in_invariant(program, before, after, o);
     let value = work_out(&at, e).map_err(EvalFault::Wide)?;
     Ok(is_true(value))
 }
@@ -88,7 +88,7 @@ pub fn entry_holds(program: &Program, heap: &Heap, entry: &Entry) -> Result<bool
     let Some(shape) = program.shapes.get(entry.shape as usize) else {
         return Ok(true);
     };
-    let at = Place::in_claim(program, heap, entry.values.as_slice());
+    let at = in_claim(program, heap, entry.values.as_slice());
     let value = work_out(&at, &shape.conjunct).map_err(EvalFault::Wide)?;
     Ok(is_true(value))
 }

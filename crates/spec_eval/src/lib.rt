@@ -1,12 +1,6 @@
-//! The value of an annotation's expression.
+//! The value of an annotation's expression, in a function, of an object's invariant and of what a claim was made with.
 #![tactic(auto)]
 
-pub mod arithmetic;
-mod claims;
 pub mod env;
 pub mod eval;
-mod expression;
-mod place;
-pub mod status;
-pub mod values;
-mod words;
+mod places;

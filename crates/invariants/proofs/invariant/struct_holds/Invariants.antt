@@ -1,6 +1,6 @@
 use Rattle.object_types.specs.Lookups.{heap_of}
 use Rattle.method.specs.Invariants.{inv_scene}
-use Rattle.spec_eval.proofs.Deciding.{HeldTo}
+use Rattle.spec_values.proofs.Deciding.{HeldTo}
 use Rattle.invariants.proofs.invariant.struct_holds.Given as goal
 
 abbrev pub invariant-loop-e : goal.invariant-loop-e
