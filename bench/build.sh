@@ -17,7 +17,7 @@ kit=/opt/rattle
 rm -rf "$to/repo" && mkdir -p "$to/repo/crates/measure/src"
 (cd "$top" && git archive HEAD crates crates.txt HANDLES) | tar x -C "$to/repo"
 for file in "$top"/bench/measure/*.txt; do cp "$file" "$to/repo/crates/measure/src/$(basename "$file" .txt).rt"; done
-echo "measure: vcc_base vcc_io vcc_judge refutation_check block_layout rule_linear vcc_rules cert_format term_bank term_graph terms method program_language itoa" >> "$to/repo/crates.txt"
+echo "measure: vcc_base vcc_io vcc_judge refutation_check block_layout rule_linear vcc_rules cert_reader cert_format term_bank term_graph terms method program_language itoa" >> "$to/repo/crates.txt"
 
 # The kit's toolchain, but with a clang that keeps the module that is to be built with checks of memory, and stops there.
 mkdir -p "$to/kit/bin"

@@ -1,16 +1,1 @@
-pub mod Again
-pub mod Completeness
-pub mod Decoded
-pub mod First
-pub mod Naturals
-pub mod Parts
-pub mod Pieces
-pub mod Plain
-pub mod Prefixes
-pub mod Readings
-pub mod Sessions
-pub mod Soundness
-pub mod Splits
-pub mod Taken
-pub mod Texts
 pub mod Writing

@@ -1,6 +1,2 @@
 pub mod Derivations
 pub mod Text
-pub mod Numerals
-pub mod Grammar
-pub mod Keeping
-pub mod Decoding

@@ -8,6 +8,7 @@ use Rattle.terms.specs.declared.term.Kind.TheVariants as k
 use Rattle.terms.specs.declared.term.Literal.{Literal}
 use Rattle.terms.specs.declared.term.Term.{Term}
 use Rattle.cert_format.specs.Derivations.{Derivation}
+use Rattle.cert_format.specs.declared.certificate.Certificate.{Certificate}
 use Rattle.cert_format.specs.declared.certificate.RuleName.{RuleName}
 use Rattle.cert_format.specs.declared.certificate.RuleName.TheVariants as r
 use Rattle.cert_format.specs.declared.certificate.Owner.{Owner}
@@ -144,6 +145,10 @@ pub record Proofs : Type 0 where
   pub version : ℕ
   pub lemmas : List Derivation
   pub blocks : List Derivation
+
+-- a certificate as code holds it
+abbrev pub seen : Certificate → Proofs
+seen c = record { version = c.version; lemmas = c.lemmas.items; blocks = c.blocks.items }
 
 -- the first lines: version 2 has lemmas, and counts them
 abbrev pub first_lines : ℕ → ℕ → List Line

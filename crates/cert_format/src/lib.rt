@@ -1,14 +1,8 @@
-//! Certificates, their text, and its readers.
+//! Certificates, their text and its faults, and the writing of it.
 #![tactic(auto)]
 
 pub mod certificate;
-pub mod decode;
 pub mod encode;
 pub mod fault;
-pub mod law;
-mod lines;
-mod names;
-mod parser;
-pub mod reader;
+pub mod names;
 pub mod stage;
-mod words;

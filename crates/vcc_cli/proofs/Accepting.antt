@@ -15,8 +15,8 @@ use Rattle.conditions.specs.Conditions.{conditions}
 use Rattle.condition_meaning.specs.Languages.{language_of}
 use Rattle.cert_format.specs.Derivations.{Derivation}
 use Rattle.cert_format.specs.Text.{IsCertText, Proofs}
-use Rattle.cert_format.specs.Keeping.{decoded}
-use Rattle.cert_format.proofs.Texts.{text_decoded}
+use Rattle.cert_reader.specs.Keeping.{decoded}
+use Rattle.cert_reader.proofs.Texts.{text_decoded}
 use Rattle.vcc_judge.specs.declared.verdict.Verdict.{Verdict as Judgment}
 use Rattle.vcc_judge.specs.declared.verdict.Verdict.TheVariants as v
 use Rattle.vcc_judge.specs.declared.verdict.JudgeFault.{JudgeFault}

@@ -1,7 +1,7 @@
 //! The command `upgrade`.
 
 ghost use Rattle.std.specs.Prelude.{◌≡◌, ◌<◌, ◌≤◌, IfErr, IfOk, MatchResult, Some, length};
-ghost use Rattle.cert_format.specs.Decoding.{seen};
+ghost use Rattle.cert_format.specs.Text.{seen};
 ghost use Rattle.conditions.specs.Conditions.{conditions as conditions_of};
 ghost use Rattle.vcc_base.specs.Maps.{Map};
 ghost use Rattle.vcc_io.specs.Faults.{IsReadFault, read_counts};

@@ -10,14 +10,14 @@ use Rattle.cert_format.specs.declared.fault.LineFault.TheVariants as l
 use Rattle.cert_format.specs.declared.stage.Counts.{Counts}
 use Rattle.cert_format.specs.declared.stage.Stage.{Stage}
 use Rattle.cert_format.specs.declared.stage.Stage.TheVariants.{Version, LemmaCount, Lemmas, InDerivation, Conditions, Ended}
-use Rattle.cert_format.specs.Grammar as grammar
-use Rattle.cert_format.specs.Grammar.{Reading, ◌>>=◌, needs, words_of}
-use Rattle.cert_format.specs.Keeping.{Progress, Scan, Session, Use, start, fresh, completed, continued, with_term, with_step, reaches, after_version, take_version, take_lemma_count, take_condition_count, take_head, take_term, take_step, take_end, next_line, take_line, behind_line, next_byte, take_byte, scan, answer, use_once, use_all, session, piece_of, pieces}
-use Rattle.cert_format.specs.Keeping.Use.{Feed, NextLemma, NextBlock}
+use Rattle.cert_lines.specs.Grammar as grammar
+use Rattle.cert_lines.specs.Grammar.{Reading, ◌>>=◌, needs, words_of}
+use Rattle.cert_reader.specs.Keeping.{Progress, Scan, Session, Use, start, fresh, completed, continued, with_term, with_step, reaches, after_version, take_version, take_lemma_count, take_condition_count, take_head, take_term, take_step, take_end, next_line, take_line, behind_line, next_byte, take_byte, scan, answer, use_once, use_all, session, piece_of, pieces}
+use Rattle.cert_reader.specs.Keeping.Use.{Feed, NextLemma, NextBlock}
 use Rattle.cert_format.specs.Text.{Line}
-use Rattle.cert_format.proofs.Pieces.{no_bytes, one_byte, two_pieces}
-use Rattle.cert_format.proofs.Sessions.{fronted, scan_later}
-use Rattle.cert_format.proofs.Texts.{no_fault}
+use Rattle.cert_reader.proofs.Pieces.{no_bytes, one_byte, two_pieces}
+use Rattle.cert_reader.proofs.Sessions.{fronted, scan_later}
+use Rattle.cert_reader.proofs.Texts.{no_fault}
 
 -- ---- lines
 

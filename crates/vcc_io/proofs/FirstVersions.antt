@@ -4,8 +4,8 @@ use Rattle.std.specs.Cmp.Lexicographic.{pointwise}
 use Rattle.std.proofs.lemmas.Bool.{both_ways}
 use Rattle.std.proofs.lemmas.Bool.Decides.{Decides-eqb}
 use Rattle.std.proofs.lemmas.Slice.Eq.{starts_is}
-use Rattle.cert_format.specs.Decoding.{Decodes, seen}
-use Rattle.cert_format.specs.Text.{IsCertText, Proofs}
+use Rattle.cert_reader.specs.Decoding.{Decodes}
+use Rattle.cert_format.specs.Text.{IsCertText, Proofs, seen}
 use Rattle.cert_format.specs.declared.certificate.Certificate.{Certificate}
 use Rattle.cert_format.specs.declared.fault.CertFault.{CertFault}
 use Rattle.cert_format.specs.declared.fault.CertFault.TheVariants as f

@@ -11,15 +11,15 @@ use Rattle.block_layout.specs.declared.space.Theory.{Theory}
 use Rattle.check_labels.specs.declared.labels.ProgramLabel.{ProgramLabel}
 use Rattle.check_labels.specs.Labels.{labels_of}
 use Rattle.cert_format.specs.Derivations.{Derivation}
-use Rattle.cert_format.specs.Grammar.{Reading, words_of}
-use Rattle.cert_format.specs.Keeping.{Progress, Scan, Session, Use, start, fresh, scan, take_byte, next_byte, take_line, behind_line, answer, proofs_of, result_of, decoded, use_once, session, piece_of, pieces, without_block, without_lemma}
-use Rattle.cert_format.specs.Keeping.Use.{Feed, NextLemma, NextBlock}
+use Rattle.cert_lines.specs.Grammar.{Reading, words_of}
+use Rattle.cert_reader.specs.Keeping.{Progress, Scan, Session, Use, start, fresh, scan, take_byte, next_byte, take_line, behind_line, answer, proofs_of, result_of, decoded, use_once, session, piece_of, pieces, without_block, without_lemma}
+use Rattle.cert_reader.specs.Keeping.Use.{Feed, NextLemma, NextBlock}
 use Rattle.cert_format.specs.Text.{Proofs}
 use Rattle.cert_format.specs.declared.fault.CertFault.{CertFault}
 use Rattle.cert_format.specs.declared.fault.CertFault.TheVariants as f
-use Rattle.cert_format.proofs.Pieces.{no_bytes, one_byte}
-use Rattle.cert_format.proofs.Sessions.{session_answers, session_proofs}
-use Rattle.cert_format.proofs.Texts.{decoded_text}
+use Rattle.cert_reader.proofs.Pieces.{no_bytes, one_byte}
+use Rattle.cert_reader.proofs.Sessions.{session_answers, session_proofs}
+use Rattle.cert_reader.proofs.Texts.{decoded_text}
 use Rattle.vcc_judge.specs.declared.trial.Trial.{Trial}
 use Rattle.vcc_judge.specs.declared.verdict.JudgeFault.{JudgeFault}
 use Rattle.vcc_judge.specs.declared.verdict.Verdict.{Verdict}

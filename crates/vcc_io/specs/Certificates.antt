@@ -1,7 +1,7 @@
 -- What a certificate is read as, and what it is refused for.
 use Rattle.std.specs.Prelude.{◌≡◌, ◌⊎◌, ℕ, List, Result, Err}
 use Rattle.cert_format.specs.Text.{IsCertText, Proofs}
-use Rattle.cert_format.specs.Keeping.{decoded}
+use Rattle.cert_reader.specs.Keeping.{decoded}
 use Rattle.cert_format.specs.declared.fault.CertFault.{CertFault}
 use Rattle.cert_format.specs.declared.fault.CertFault.TheVariants as c
 use Rattle.vcc_base.specs.Maps.{Map}

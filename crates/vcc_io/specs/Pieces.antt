@@ -5,7 +5,7 @@ use Rattle.conditions.specs.Conditions.{conditions}
 use Rattle.condition_meaning.specs.Languages.{language_of}
 use Rattle.block_layout.specs.declared.space.Theory.{Theory}
 use Rattle.cert_format.specs.Derivations.{Derivation}
-use Rattle.cert_format.specs.Keeping.{Scan, Use, session, pieces}
+use Rattle.cert_reader.specs.Keeping.{Scan, Use, session, pieces}
 use Rattle.cert_format.specs.Text.{IsCertText, Proofs}
 use Rattle.vcc_base.specs.Maps.{Map, IsPieceOf}
 use Rattle.vcc_base.specs.declared.limit.Limit.TheVariants.{CertBytes}

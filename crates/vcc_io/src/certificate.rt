@@ -3,7 +3,7 @@
 ghost use Rattle.std.specs.Prelude.{◌≡◌, ◌+◌, ◌<◌, ◌≤◌, ◌∷◌, ◌++◌, [], ℕ, List, length, IfErr, IfOk, MatchBool, MatchResult, Some, None, Ok, Err};
 ghost use Rattle.method.specs.Labels as spec;
 ghost use Rattle.cert_format.specs.Derivations.{Derivation};
-ghost use Rattle.cert_format.specs.Keeping.{Keeps, Scan, decoded};
+ghost use Rattle.cert_reader.specs.Keeping.{Keeps, Scan, decoded};
 ghost use Rattle.block_layout.specs.Space.{IsTheory};
 ghost use Rattle.block_layout.specs.declared.space.Theory.{Theory};
 ghost use Rattle.condition_meaning.specs.Languages.{language_of};
@@ -23,7 +23,7 @@ use crate::refusal::{LineFault, Refusal};
 use block_layout::space::Theory;
 use cert_format::certificate::Refutation;
 use cert_format::fault::CertFault;
-use cert_format::reader::BlockReader;
+use cert_reader::reader::BlockReader;
 use check_labels::labels::ProgramLabel;
 use std::alloc::{AllocError, Global};
 use vcc_base::limit::Limit;

@@ -1,8 +1,7 @@
 //! The text of a certificate of version 2.
 
 ghost use Rattle.std.specs.Prelude.{◌≡◌, ◌++◌, All, IfOk, OnOk, flat_map};
-ghost use Rattle.cert_format.specs.Decoding.{seen};
-ghost use Rattle.cert_format.specs.Text.{IsCertificate, block_text, count_line, lemma_text, line_text, lines_of};
+ghost use Rattle.cert_format.specs.Text.{IsCertificate, block_text, count_line, lemma_text, line_text, lines_of, seen};
 ghost use Rattle.cert_format.specs.Text.{text_of as text_of_lines};
 ghost use Rattle.upgrade_laws.specs.Laws.{FitIndices};
 ghost use Rattle.vcc_io.specs.CertificateTexts.{HasFewLiterals, HasIndex};

@@ -1,7 +1,7 @@
 //! Reading a certificate of version 1.
 
 ghost use Rattle.std.specs.Prelude.{◌≡◌, ◌<◌, ◌≤◌, IfErr, IfOk, MatchBool, MatchResult, Some, length};
-ghost use Rattle.cert_format.specs.Decoding.{seen};
+ghost use Rattle.cert_format.specs.Text.{seen};
 ghost use Rattle.vcc_base.specs.Maps.{Map};
 ghost use Rattle.vcc_io.specs.Faults.{IsReadFault};
 ghost use Rattle.vcc_io.specs.FirstVersions.{BeginsSecond, HoldsFirstVersion, IsFirst, IsFirstText, IsFirstVersionStop};
@@ -11,7 +11,7 @@ use crate::certificate::refusal_of;
 use crate::program::read;
 use crate::refusal::{LineFault, Refusal};
 use cert_format::certificate::Certificate;
-use cert_format::decode::decode;
+use cert_reader::decode::decode;
 use std::alloc::Global;
 use vcc_base::limit::Limit;
 use vcc_base::store::Store;

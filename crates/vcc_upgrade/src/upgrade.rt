@@ -2,7 +2,7 @@
 
 ghost use Rattle.std.specs.Prelude.{◌≡◌, false, IsTrue, IfOk, Err};
 ghost use Rattle.condition_meaning.specs.Languages.{language_of};
-ghost use Rattle.cert_format.specs.Decoding.{seen};
+ghost use Rattle.cert_format.specs.Text.{seen};
 ghost use Rattle.block_layout.specs.Space.{IsTheory};
 ghost use Rattle.certificate_upgrade.specs.Lemmas.{AreFew};
 ghost use Rattle.certificate_upgrade.specs.Upgrade.{upgraded};

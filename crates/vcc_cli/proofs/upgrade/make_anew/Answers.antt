@@ -1,5 +1,5 @@
 use Rattle.std.proofs.Common.{◌≡◌, ◌≤◌, length, arith}
-use Rattle.cert_format.specs.Decoding.{seen}
+use Rattle.cert_format.specs.Text.{seen}
 use Rattle.vcc_cli.proofs.Upgrading.{is_anew, new_fits}
 use Rattle.vcc_cli.proofs.upgrade.make_anew.Goals as goal
 

@@ -1,5 +1,5 @@
 use Rattle.std.proofs.Common.{◌≡◌, inl, length, arith}
-use Rattle.cert_format.specs.Decoding.{seen}
+use Rattle.cert_format.specs.Text.{seen}
 use Rattle.vcc_cli.proofs.Upgrading.{anew_answer, miscounted, no_unmade_read}
 use Rattle.vcc_cli.proofs.upgrade.read_anew.Goals as goal
 

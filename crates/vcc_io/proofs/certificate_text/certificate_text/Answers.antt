@@ -1,5 +1,5 @@
 use Rattle.std.proofs.Common.{◌≡◌, length, arith}
-use Rattle.cert_format.specs.Decoding.{seen}
+use Rattle.cert_format.specs.Text.{seen}
 use Rattle.vcc_io.proofs.CertificateTexts.{few_in_blocks, few_in_lemmas, written}
 use Rattle.vcc_io.proofs.certificate_text.certificate_text.Goals as goal
 

@@ -1,6 +1,6 @@
 use Rattle.std.proofs.Common.{inl, inr, refl}
 use Rattle.std.proofs.lemmas.Bool.{MatchBool-at_false, MatchBool-at_true}
-use Rattle.cert_format.specs.Decoding.{seen}
+use Rattle.cert_format.specs.Text.{seen}
 use Rattle.vcc_io.specs.FirstVersions.{BeginsSecond}
 use Rattle.vcc_io.proofs.FirstVersions.{first_fault, first_text}
 use Rattle.vcc_io.proofs.first_version.first_version.Goals as goal

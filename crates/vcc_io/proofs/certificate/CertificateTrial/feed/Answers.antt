@@ -1,4 +1,4 @@
-use Rattle.cert_format.specs.Keeping.{scan}
+use Rattle.cert_reader.specs.Keeping.{scan}
 use Rattle.vcc_io.proofs.Sessions.{feed_bytes, feed_takes}
 use Rattle.vcc_io.proofs.certificate.CertificateTrial.feed.Goals as goal
 

@@ -1,5 +1,5 @@
 use Rattle.std.proofs.Common.{◌∷◌, ap, sym, ◌∙◌}
-use Rattle.cert_format.specs.Keeping.{Scan}
+use Rattle.cert_reader.specs.Keeping.{Scan}
 use Rattle.vcc_io.proofs.Sessions.{block_taken, blocks_tried, fewer, ready_of}
 use Rattle.vcc_io.proofs.certificate.CertificateTrial.take_blocks.Goals as goal
 

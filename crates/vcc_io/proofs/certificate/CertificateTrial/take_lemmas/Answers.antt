@@ -1,5 +1,5 @@
 use Rattle.std.proofs.Common.{ap, ◌∙◌, refl}
-use Rattle.cert_format.specs.Keeping.{Scan}
+use Rattle.cert_reader.specs.Keeping.{Scan}
 use Rattle.vcc_io.proofs.Sessions.{fewer, lemma_kept, lemmas_kept, no_lemma_left}
 use Rattle.vcc_io.proofs.certificate.CertificateTrial.take_lemmas.Goals as goal
 
