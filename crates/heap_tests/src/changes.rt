@@ -4,7 +4,8 @@ use object_types::heap::Heap;
 use object_types::records::Mode;
 use object_types::references::Ref;
 use object_types::values::Value;
-use std::alloc::{AllocError, Global};
+use ownership::effects::{close_object, give, open_object, take};
+use std::alloc::AllocError;
 
 /// A call that changes a heap.
 #[derive(Clone, Copy)]
@@ -15,6 +16,10 @@ pub enum Change<'a> {
     Own(Ref, Ref, bool),
     List(Ref, Ref, bool),
     Conjunct(Ref, u32, &'a [Value], bool),
+    Close(Ref),
+    OpenFor(Ref, Ref),
+    Give(Ref, Ref),
+    Take(Ref, Ref, Ref),
 }
 
 pub fn apply(h: &mut Heap, change: Change<'_>) -> Result<(), AllocError> {
@@ -25,14 +30,9 @@ pub fn apply(h: &mut Heap, change: Change<'_>) -> Result<(), AllocError> {
         Change::Own(o, member, holds) => h.set_owned(o, member, holds),
         Change::List(c, object, holds) => h.set_listed(c, object, holds),
         Change::Conjunct(c, shape, values, holds) => h.set_shape(c, shape, values, holds),
+        Change::Close(o) => close_object(h, o),
+        Change::OpenFor(o, t) => open_object(h, o, t),
+        Change::Give(from, to) => give(h, from, to),
+        Change::Take(owner, p, t) => take(h, owner, p, t),
     }
-}
-
-/// The empty heap after the changes.
-pub fn heap_of(alloc: Global, changes: &[Change<'_>]) -> Result<Heap, AllocError> {
-    let mut h = Heap::empty(alloc);
-    for change in changes {
-        apply(&mut h, *change)?;
-    }
-    Ok(h)
 }

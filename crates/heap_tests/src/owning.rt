@@ -27,16 +27,16 @@ fn chain_of_owners(alloc: Global, count: u32) -> Result<Heap, AllocError> {
     Ok(h)
 }
 
-/// How many objects the stable set has.
-fn count_stable(alloc: Global, h: &Heap) -> Result<usize, AllocError> {
+/// How many objects of such a chain t's stable set has.
+fn count_stable(alloc: Global, count: u32) -> Result<usize, AllocError> {
+    let h = chain_of_owners(alloc, count)?;
     let program = program(alloc)?;
-    let found = stable_set(alloc, &program, h, T)?;
+    let found = stable_set(alloc, &program, &h, T)?;
     Ok(found.len())
 }
 
 #[test]
 fn a_long_chain_of_owners(rt: HostRuntime) -> Result<(), Fail> {
-    let h = chain_of_owners(rt.alloc(), 20001)?;
-    assert!(rt; count_stable(rt.alloc(), &h)? == 20001);
+    assert!(rt; count_stable(rt.alloc(), 20001)? == 20001);
     Ok(())
 }

@@ -1,6 +1,5 @@
 -- Invariants of a struct and of a claim over two heaps, by computation; whether they hold was worked by hand. Own.
-use Rattle.std.specs.Prelude.{◌≡◌, ℕ, Bool, true, false, ℤ, pos, ◌-ℤ◌, List, [], ◌∷◌, ◌++◌, map, Result, Ok, Box, refl}
-use Rattle.std.specs.declared.alloc.Global.{Global}
+use Rattle.std.specs.Prelude.{◌≡◌, Bool, true, false, ℤ, pos, List, [], ◌∷◌, ◌++◌, map, Result, Ok, refl}
 use Rattle.int_ranges.specs.declared.ctype.CType.TheVariants.{LongLong}
 use Rattle.object_types.specs.declared.references.Ref.{Ref}
 use Rattle.object_types.specs.declared.values.Value.TheVariants.{Int, Ref as Refers}

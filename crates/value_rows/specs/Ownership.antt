@@ -9,7 +9,7 @@ use Rattle.object_types.specs.declared.records.Change.TheVariants.{Status, Count
 use Rattle.object_types.specs.References.{ref, null, same_ref}
 use Rattle.object_types.specs.Values.{or_zero}
 use Rattle.object_types.specs.Sets.{is_in}
-use Rattle.object_types.specs.Heap.{Heap, empty_heap, put, hand_over, mutable, wrapped, writable}
+use Rattle.object_types.specs.Heap.{Heap, put, hand_over, mutable, wrapped, writable}
 use Rattle.method.specs.declared.program.StructInfo.{StructInfo}
 use Rattle.method.specs.declared.program.Program.{Program}
 use Rattle.method.specs.StableSet.{stable_set}

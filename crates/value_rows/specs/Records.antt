@@ -1,6 +1,7 @@
 -- What heaps show after a few changes, by computation; it was worked by hand. Own.
 use Rattle.std.specs.Prelude.{◌≡◌, ℕ, Bool, true, false, not, ℤ, pos, List, [], ◌∷◌, length, ◌==◌, map, Some, None, refl}
 use Rattle.std.proofs.Common.{ap}
+use Rattle.std.proofs.lemmas.Bool.{true≢false}
 use Rattle.object_types.specs.declared.references.Ref.{Ref}
 use Rattle.object_types.specs.declared.values.Value.{Value}
 use Rattle.object_types.specs.declared.values.Value.TheVariants.{Int, Ref as Refers}
@@ -238,28 +239,25 @@ whole = (heap_of ((a, Count (pos 1)) ∷ (a, Write 0 (Int (pos 1))) ∷ (a, Owne
 abbrev Differs : Change → Type 0
 Differs change = ¬ SameContent whole (changed change whole)
 
-apart : true ≡ false → ⊥
-apart h = absurd (cc)
-
 count_differs : Differs (Count (pos 2))
 unfolding same_ref put
-count_differs same = apart (ap (λ z. same_int z (pos 1)) same.count)
+count_differs same = true≢false (ap (λ z. same_int z (pos 1)) same.count)
 
 fields_differ : Differs (Write 1 (Int (pos 1)))
 unfolding same_ref put
-fields_differ same = apart (ap (λ v. same_value (or_zero (Int (pos 0)) v) (Int (pos 0))) (same.fields 1))
+fields_differ same = true≢false (ap (λ v. same_value (or_zero (Int (pos 0)) v) (Int (pos 0))) (same.fields 1))
 
 owned_differ : Differs (Owned b false)
 unfolding same_ref put
-owned_differ same = apart (ap (λ os. length os == 1) same.owned)
+owned_differ same = true≢false (ap (λ os. length os == 1) same.owned)
 
 listed_differ : Differs (Listed c true)
 unfolding same_ref put
-listed_differ same = apart (ap (λ os. length os == 1) same.listed)
+listed_differ same = true≢false (ap (λ os. length os == 1) same.listed)
 
 shapes_differ : Differs (Conjunct (entry 0 (Int (pos 2) ∷ [])) true)
 unfolding same_ref put
-shapes_differ same = apart (ap (λ es. length es == 1) same.shapes)
+shapes_differ same = true≢false (ap (λ es. length es == 1) same.shapes)
 
 status_is_none_of_it : SameContent whole (changed (Status Freed c) whole)
 status_is_none_of_it = record { count = refl; owned = refl; fields = λ f. refl; listed = refl; shapes = refl }
