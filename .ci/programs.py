@@ -35,10 +35,9 @@ class Row:
 def ran(words, folder):
     """The lines that the command prints, each with its status; what is printed otherwise is a line that no row wants. Where the last word is `>PATH`,
     its output goes there."""
-    *before, last = words
-    words, into = (before, last[1:]) if last[0] == ">" else (words, os.devnull)
-    with open(into, "wb") as out:
-        run = subprocess.run([program, *words], cwd=folder, stdout=subprocess.PIPE if into == os.devnull else out, stderr=subprocess.PIPE, timeout=300)
+    given = [it for it in words if it[:1] != ">"]
+    with open(words[-1][1:] if given != words else os.devnull, "wb") as out:
+        run = subprocess.run([program, *given], cwd=folder, stdout=out if given != words else subprocess.PIPE, stderr=subprocess.PIPE, timeout=300)
     *lines, rest = (run.stdout or b"").decode(errors="replace").split("\n")
     strange = [f"{rest} (no end of a line)"] * bool(rest) + [f"standard error: {run.stderr}"] * bool(run.stderr)
     return [(run.returncode, line) for line in lines + strange or ["(nothing)"]]
