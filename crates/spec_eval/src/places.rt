@@ -5,7 +5,7 @@ ghost use Rattle.object_types.specs.Lookups.{heap_of};
 ghost use Rattle.method.specs.SpecValue.{claim_scene};
 ghost use Rattle.method.specs.Invariants.{inv_scene};
 ghost use Rattle.spec_values.specs.Scenes.{scene_at};
-ghost use Rattle.spec_eval.specs.Scenes.{scene_of};
+ghost use Rattle.spec_eval.specs.Scenes.{scene_of, scene_with};
 
 use crate::env::Env;
 use method::program::Program;
@@ -50,7 +50,7 @@ fn outside<'a>(
     this: Ref,
     values: &'a [Value],
 ) -> Place<'a>
-    ensures scene { scene_at result ≡ record (inv_scene this (heap_of before.entry.now) (heap_of after.entry.now)) { locals = values.entry.now } }
+    ensures scene { scene_at result ≡ scene_with this (heap_of before.entry.now) (heap_of after.entry.now) values.entry.now }
     ensures program { result.program ≡ program.entry }
 {
     Place {
