@@ -8,7 +8,7 @@ CORES := $(shell nproc)
 
 .PHONY: run try build install test check fmt
 
-# Judges the lock and replays it, by one build without proofs: two to three and a half minutes.
+# Judges the lock and replays it, by one build without proofs: one and a half to three and a half minutes, by the machine.
 run:
 	@echo "unproved run; \`make test\` proves it"
 	@cd crates/vcc && rt try --cases $(EXAMPLES)/cases $(foreach it,c cert sched,--data lock.$(it)=$(EXAMPLES)/lock.$(it))
