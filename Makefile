@@ -7,7 +7,7 @@ EXAMPLES := $(CURDIR)/examples
 
 .PHONY: run try build install test check fmt
 
-# Judges the lock and replays it, by one build without proofs: one and a half to three and a half minutes, by the machine.
+# Judges the lock and replays it, by one build without proofs: 80 to 210 seconds, by the machine.
 run:
 	@echo "unproved run; \`make test\` proves it"
 	@cd crates/vcc && rt try --cases $(EXAMPLES)/cases $(foreach it,c cert sched,--data lock.$(it)=$(EXAMPLES)/lock.$(it))
@@ -30,7 +30,7 @@ install: build
 	install -m 644 docs/*.md $(PREFIX)/share/doc/vcc
 	cp -R examples $(PREFIX)/share/vcc/
 
-# Every proof, test, program and must-fail edit from nothing, and the repository's own checks.
+# Every proof, test, program and must-fail edit, but for what passed on this machine before over the same files, and the repository's own checks.
 test:
 	bash .ci/run
 
